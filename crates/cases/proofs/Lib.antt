@@ -1,0 +1,4 @@
+pub mod Picks
+pub mod Loops
+pub mod Bools
+pub mod Lists

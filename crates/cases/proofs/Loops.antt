@@ -1,0 +1,81 @@
+-- Loops that count j up to n, and answer what a definition says of all n turns.
+-- The invariant: what is left of the definition, from where the loop stands, is the whole. Assumes nothing.
+use Prim.Native.Nat.{ℕ, zero, suc, _≤_, _<_, _-_, _+_}
+use mathlib.Core.Path.{_≡_, refl, sym, ap, _∙_}
+use mathlib.Core.Bool.{Bool, true, false, not}
+use native.Mathlib.Nat.{sub-zero, not-suc-le-zero}
+use native.Mathlib.Numerals.{add-one}
+use native.Mathlib.Decide.{ℕ-discrete}
+use native.Mathlib.Omega.{arith}
+use borrow.Author.Tests.{not-true, not-false}
+use lib.Dec.{T}
+use Rattle.cases.specs.Cases.{pick, turns, each}
+
+left : (n j : ℕ) → j < n → n - j ≡ suc (n - (j + 1))
+left n j h = omega arith
+
+module _ {S : Type 0} (f : ℕ → S → S) (n : ℕ) (all : S) where
+  pub turns-start : (s : S) → turns f n 0 s ≡ all → turns f (n - 0) 0 s ≡ all
+  turns-start s e = rw sub-zero e
+
+  pub turns-more : (j : ℕ) (s t : S) → t ≡ f j s → j < n → turns f (n - j) j s ≡ all → turns f (n - (j + 1)) (j + 1) t ≡ all
+  unfolding turns
+  turns-more j s t d h e = rw (d, add-one j) (rw (left n j h, add-one j) at e)
+
+  pub turns-end : (j : ℕ) (s : S) → n ≤ j → turns f (n - j) j s ≡ all → s ≡ all
+  unfolding turns
+  turns-end j s h e = let z : n - j ≡ 0 = omega arith in rw z at e
+
+-- a state that no turn changes: what an early return rests on
+pub turns-still : {S : Type 0} (f : ℕ → S → S) (n j : ℕ) (s : S) → ((i : ℕ) → f i s ≡ s) → turns f n j s ≡ s
+unfolding turns
+turns-still f zero j s h = refl
+turns-still f (suc n) j s h = rw (h j) (turns-still f n (suc j) s h)
+
+-- what each turn keeps, all turns keep
+pub turns-keep : {S : Type 0} (P : S → Type 0) (f : ℕ → S → S) → ((j : ℕ) (s : S) → P s → P (f j s)) → (n j : ℕ) (s : S) → P s → P (turns f n j s)
+unfolding turns
+turns-keep P f h zero j s p = p
+turns-keep P f h (suc n) j s p = turns-keep P f h n (suc j) (f j s) (h j s p)
+
+module _ (p : ℕ → Bool) (n : ℕ) (all : Bool) where
+  unrolled : (j : ℕ) → j < n → each p (n - j) j ≡ pick (p j) (each p (n - (j + 1)) (j + 1)) false
+  unfolding each
+  unrolled j h = rw (left n j h, add-one j)
+
+  each-false : (j : ℕ) → p j ≡ false → j < n → each p (n - j) j ≡ all → false ≡ all
+  each-false j z h e = (let u : pick (p j) (each p (n - (j + 1)) (j + 1)) false ≡ false = rw z in sym u) ∙ sym (unrolled j h) ∙ e
+
+  each-true : (j : ℕ) → p j ≡ true → j < n → each p (n - j) j ≡ all → each p (n - (j + 1)) (j + 1) ≡ all
+  each-true j z h e = (let u : pick (p j) (each p (n - (j + 1)) (j + 1)) false ≡ each p (n - (j + 1)) (j + 1) = rw z in sym u) ∙ sym (unrolled j h) ∙ e
+
+  -- the loop's test is a callee's answer r, and the code branches on `!r`
+  pub each-stop : (j : ℕ) (r : Bool) → r ≡ p j → not r ≡ true → j < n → each p (n - j) j ≡ all → false ≡ all
+  each-stop j r d t h e = each-false j (sym d ∙ not-true r t) h e
+
+  pub each-more : (j : ℕ) (r : Bool) → r ≡ p j → not r ≡ false → j < n → each p (n - j) j ≡ all → each p (n - (j + 1)) (j + 1) ≡ all
+  each-more j r d t h e = each-true j (sym d ∙ not-false r t) h e
+
+  pub each-end : (j : ℕ) → n ≤ j → each p (n - j) j ≡ all → true ≡ all
+  unfolding each
+  each-end j h e = let z : n - j ≡ 0 = omega arith in rw z at e
+
+-- a test that holds at each number, at one of them
+pub each-at : (p : ℕ → Bool) (n j : ℕ) → each p n j ≡ true → (i : ℕ) → j ≤ i → i < j + n → p i ≡ true
+unfolding each
+each-at p zero j e i l h = absurd (let a : j ≤ i = l in omega arith)
+each-at p (suc n) j e i l h = go (p j) refl (λ d l'. each-at p n (suc j) d i l' (omega arith)) e (ℕ-discrete i j)
+  where
+    go : (b : Bool) → p j ≡ b → (each p n (suc j) ≡ true → suc j ≤ i → p i ≡ true) → pick b (each p n (suc j)) false ≡ true → Dec (i ≡ j) → p i ≡ true
+    go true d ih e (yes q) = rw q d
+    go true d ih e (no q) = ih e (omega arith)
+    go false d ih e q = absurd (let z : _≡_ {A = Bool} false true = e in elim-false z)
+      where
+        elim-false : _≡_ {A = Bool} false true → ⊥
+        elim-false z = let w : _≡_ {A = ℕ} 0 1 = cc in omega arith
+
+-- and the other way: where it holds at all n numbers
+pub each-all : (p : ℕ → Bool) (n j : ℕ) → ((i : ℕ) → j ≤ i → i < j + n → p i ≡ true) → each p n j ≡ true
+unfolding each
+each-all p zero j h = refl
+each-all p (suc n) j h = rw (h j (omega arith) (omega arith)) (each-all p n (suc j) (λ i l k. h i (omega arith) (omega arith)))

@@ -1,0 +1,24 @@
+-- Definitions by cases and by repetition, from which the other crates' definitions are made.
+use Prim.Native.Nat.{ℕ, zero, suc}
+use mathlib.Core.Bool.{Bool, true, false}
+use mathlib.Core.List.{List, [], _∷_}
+
+-- the first where the test holds, else the second
+abbrev pub pick : {A : Type 0} → Bool → A → A → A
+pick true a b = a
+pick false a b = b
+
+-- n turns, numbered from j on, in order
+unfoldable pub turns : {S : Type 0} → (ℕ → S → S) → ℕ → ℕ → S → S
+turns f zero j s = s
+turns f (suc n) j s = turns f n (suc j) (f j s)
+
+-- a test holds at each of the n numbers from j on
+unfoldable pub each : (ℕ → Bool) → ℕ → ℕ → Bool
+each p zero j = true
+each p (suc n) j = pick (p j) (each p n (suc j)) false
+
+-- the values at the n numbers from j on, as a list
+abbrev pub listed : {A : Type 0} → (ℕ → A) → ℕ → ℕ → List A
+listed f zero j = []
+listed f (suc n) j = f j ∷ listed f n (suc j)

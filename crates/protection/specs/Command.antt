@@ -1,0 +1,63 @@
+-- Commands (document 01: rules) and calls of them (rule runs). Parameters are document 01's blanks, operations its steps.
+use mathlib.Core.Bool.{Bool, true, false, _||_}
+use mathlib.Core.List.{List, [], _∷_}
+use Prim.Native.Nat.{ℕ, zero, suc}
+use lib.Dec.{eqb}
+
+-- the right is in the cell of the two parameters
+pub record Condition : Type 0 where
+  pub right : ℕ
+  pub subject : ℕ
+  pub object : ℕ
+
+-- the six primitive operations; the last numbers are parameters
+pub data Operation : Type 0 where
+  enter delete : ℕ → ℕ → ℕ → Operation
+  createSubject createObject destroySubject destroyObject : ℕ → Operation
+
+pub record Command : Type 0 where
+  pub parameters : ℕ
+  pub conditions : List Condition
+  pub operations : List Operation
+
+-- a protection system: the number of rights, and the commands
+pub record System : Type 0 where
+  pub rights : ℕ
+  pub commands : List Command
+
+-- "each rule run is a rule number and four actuals, all whole numbers from 0 up"
+pub record Call : Type 0 where
+  pub command : ℕ
+  pub a0 : ℕ
+  pub a1 : ℕ
+  pub a2 : ℕ
+  pub a3 : ℕ
+
+abbrev pub Actuals : Type 0
+Actuals = ℕ → ℕ
+
+abbrev pub actuals : Call → Actuals
+actuals x zero = x .a0
+actuals x (suc zero) = x .a1
+actuals x (suc (suc zero)) = x .a2
+actuals x (suc (suc (suc i))) = x .a3
+
+-- ---- which parameters a command names
+abbrev pub inConditions : ℕ → List Condition → Bool
+inConditions b [] = false
+inConditions b (c ∷ cs) = (eqb b (c .subject) || eqb b (c .object)) || inConditions b cs
+
+abbrev pub inOperation : ℕ → Operation → Bool
+inOperation b (enter q s o) = eqb b s || eqb b o
+inOperation b (delete q s o) = eqb b s || eqb b o
+inOperation b (createSubject s) = eqb b s
+inOperation b (createObject o) = eqb b o
+inOperation b (destroySubject s) = eqb b s
+inOperation b (destroyObject o) = eqb b o
+
+abbrev pub inOperations : ℕ → List Operation → Bool
+inOperations b [] = false
+inOperations b (c ∷ cs) = inOperation b c || inOperations b cs
+
+abbrev pub named : Command → ℕ → Bool
+named C b = inConditions b (C .conditions) || inOperations b (C .operations)

@@ -1,0 +1,6 @@
+pub mod Limits
+pub mod State
+pub mod Command
+pub mod Execution
+pub mod Leak
+pub mod Paper
