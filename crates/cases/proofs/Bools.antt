@@ -1,5 +1,5 @@
 -- Conjunctions and disjunctions of tests as types: `search both` takes a conjunction apart and builds one. Assumes nothing.
-use mathlib.Core.Path.{_≡_, refl, sym, subst}
+use mathlib.Core.Path.{_≡_, refl, sym, subst, _∙_}
 use mathlib.Core.Bool.{Bool, true, false, not, _&&_, _||_}
 use mathlib.Core.Logic.{_⊎_, inl, inr}
 use lib.Dec.{T}
@@ -63,3 +63,10 @@ same-truth true true f g = refl
 same-truth true false f g = absurd (f tt)
 same-truth false true f g = absurd (g tt)
 same-truth false false f g = refl
+
+-- a conjunction whose parts are callees' answers r and s, the second asked only where the first holds
+pub and-second : (r s b c : Bool) → r ≡ b → s ≡ c → r ≡ true → s ≡ b && c
+and-second r s b c d e t = let z : b ≡ true = sym d ∙ t in rw z e
+
+pub and-first : (r b c : Bool) → r ≡ b → r ≡ false → false ≡ b && c
+and-first r b c d t = let z : b ≡ false = sym d ∙ t in rw z

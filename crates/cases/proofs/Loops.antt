@@ -43,10 +43,10 @@ module _ (p : ℕ → Bool) (n : ℕ) (all : Bool) where
   unfolding each
   unrolled j h = rw (left n j h, add-one j)
 
-  each-false : (j : ℕ) → p j ≡ false → j < n → each p (n - j) j ≡ all → false ≡ all
+  pub each-false : (j : ℕ) → p j ≡ false → j < n → each p (n - j) j ≡ all → false ≡ all
   each-false j z h e = (let u : pick (p j) (each p (n - (j + 1)) (j + 1)) false ≡ false = rw z in sym u) ∙ sym (unrolled j h) ∙ e
 
-  each-true : (j : ℕ) → p j ≡ true → j < n → each p (n - j) j ≡ all → each p (n - (j + 1)) (j + 1) ≡ all
+  pub each-true : (j : ℕ) → p j ≡ true → j < n → each p (n - j) j ≡ all → each p (n - (j + 1)) (j + 1) ≡ all
   each-true j z h e = (let u : pick (p j) (each p (n - (j + 1)) (j + 1)) false ≡ each p (n - (j + 1)) (j + 1) = rw z in sym u) ∙ sym (unrolled j h) ∙ e
 
   -- the loop's test is a callee's answer r, and the code branches on `!r`

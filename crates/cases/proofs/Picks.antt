@@ -35,6 +35,13 @@ on-yes r b x y z d p e = simp (sym d ∙ p) e
 pub on-no : {A : Type 0} (r b : Bool) (x y z : A) → r ≡ b → r ≡ false → x ≡ z → x ≡ pick b y z
 on-no r b x y z d p e = simp (sym d ∙ p) e
 
+-- a number that a callee answered, r, which the code compared
+pub on-is : {A : Type 0} (r a b : ℕ) (x y z : A) → r ≡ a → r ≡ b → x ≡ y → x ≡ pick (eqb a b) y z
+on-is r a b x y z d p e = on-eq a b x y z (sym d ∙ p) e
+
+pub on-isnt : {A : Type 0} (r a b : ℕ) (x y z : A) → r ≡ a → (r ≡ b → ⊥) → x ≡ z → x ≡ pick (eqb a b) y z
+on-isnt r a b x y z d p e = on-ne a b x y z (λ q. p (d ∙ q)) e
+
 -- the same where the code branched on `!r`
 pub on-not-no : {A : Type 0} (r b : Bool) (x y z : A) → r ≡ b → not r ≡ true → x ≡ z → x ≡ pick b y z
 on-not-no r b x y z d p e = on-no r b x y z d (not-true r p) e

@@ -93,10 +93,11 @@ named-below ks e x t = go (decLt x names)
 module _ (g : ℕ) (ks cs : List ℕ) (K : Canonical g ks cs) where
   pub view-proper : Proper g (view ks cs)
   view-proper = record {
-      named = named-below ks (K .kinds-length);
-      row = λ s o q t. and-left (isSubject (kindOf (getD ks s 0))) (isObject (kindOf (getD ks o 0))) (within ks cs s o q t);
-      column = λ s o q t. and-right (isSubject (kindOf (getD ks s 0))) (isObject (kindOf (getD ks o 0))) (within ks cs s o q t);
-      right = λ s o q t. has-below g q (getD cs (names * s + o) 0) (K .cells-fit (names * s + o)) (bit-in ks cs s o q t) }
+    named = named-below ks (K .kinds-length);
+    row = λ s o q t. and-left (isSubject (kindOf (getD ks s 0))) (isObject (kindOf (getD ks o 0))) (within ks cs s o q t);
+    column = λ s o q t. and-right (isSubject (kindOf (getD ks s 0))) (isObject (kindOf (getD ks o 0))) (within ks cs s o q t);
+    right = λ s o q t. has-below g q (getD cs (names * s + o) 0) (K .cells-fit (names * s + o)) (bit-in ks cs s o q t);
+  }
 
   pub kinds-back : kindsOf (view ks cs) ≡ ks
   unfolding kindsOf
@@ -105,7 +106,7 @@ module _ (g : ℕ) (ks cs : List ℕ) (K : Canonical g ks cs) where
       let n : length (listed f names 0) ≡ names = length-listed f names 0 in
       let e = K .kinds-length in
       ext-getD 0 (listed f names 0) ks (n ∙ sym e)
-        (λ i l. getD-listed f 0 names 0 i (omega arith) ∙ byte-kind (getD ks (0 + i) 0) (K .kinds-fit (0 + i)) ∙ ap (λ (z : ℕ). getD ks z 0) (omega arith))
+      (λ i l. getD-listed f 0 names 0 i (omega arith) ∙ byte-kind (getD ks (0 + i) 0) (K .kinds-fit (0 + i)) ∙ ap (λ (z : ℕ). getD ks z 0) (omega arith))
 
   module _ (few : g ≤ rights) where
     cell-back : (c : ℕ) → c < names * names → cellByte (view ks cs) c ≡ getD cs c 0
@@ -130,7 +131,7 @@ module _ (g : ℕ) (ks cs : List ℕ) (K : Canonical g ks cs) where
         let n : length (listed f (names * names) 0) ≡ names * names = length-listed f (names * names) 0 in
         let e = K .cells-length in
         ext-getD 0 (listed f (names * names) 0) cs (n ∙ sym e)
-          (λ i l. getD-listed f 0 (names * names) 0 i (omega arith) ∙ cell-back (0 + i) (omega arith) ∙ ap (λ (z : ℕ). getD cs z 0) (omega arith))
+        (λ i l. getD-listed f 0 (names * names) 0 i (omega arith) ∙ cell-back (0 + i) (omega arith) ∙ ap (λ (z : ℕ). getD cs z 0) (omega arith))
 
 -- ---- from a state to bytes and back
 module _ (g : ℕ) (m : State) (K : Proper g m) where
@@ -207,7 +208,7 @@ module _ (g : ℕ) (m : State) (K : Proper g m) where
       go : Dec (c < names * names) → getD (listed (cellByte m) (names * names) 0) c 0 < 2 ^ g
       go (yes l) =
           rw (getD-listed (cellByte m) 0 (names * names) 0 c l)
-            (number-within g (m .cell ((0 + c) / names) ((0 + c) % names)) rights (λ q t. K .right ((0 + c) / names) ((0 + c) % names) q t))
+          (number-within g (m .cell ((0 + c) / names) ((0 + c) % names)) rights (λ q t. K .right ((0 + c) / names) ((0 + c) % names) q t))
       go (no l) =
           let n : length (listed (cellByte m) (names * names) 0) ≡ names * names = length-listed (cellByte m) (names * names) 0 in
           let z : getD (listed (cellByte m) (names * names) 0) c 0 ≡ 0 = List·getD-eq-default (listed (cellByte m) (names * names) 0) 0 {n = c} (omega arith) in
@@ -221,8 +222,9 @@ module _ (g : ℕ) (m : State) (K : Proper g m) where
 
   pub written-canonical : Canonical g (kindsOf m) (cellsOf m)
   written-canonical = record {
-      kinds-length = unfold kindsOf in length-listed (λ x. kindByte (m .kind x)) names 0;
-      cells-length = unfold cellsOf in length-listed (cellByte m) (names * names) 0;
-      kinds-fit = kinds-small;
-      cells-fit = cells-small;
-      outside = cells-outside }
+    kinds-length = unfold kindsOf in length-listed (λ x. kindByte (m .kind x)) names 0;
+    cells-length = unfold cellsOf in length-listed (cellByte m) (names * names) 0;
+    kinds-fit = kinds-small;
+    cells-fit = cells-small;
+    outside = cells-outside;
+  }

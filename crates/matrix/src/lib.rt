@@ -1,5 +1,8 @@
 // The access matrix as a struct by value.
 ghost use mathlib.Core.Path.{_≡_};
+ghost use Prim.Native.Nat.{_<_};
+ghost use Rattle.protection.specs.State.{isObject, isSubject};
+ghost use Rattle.matrix.specs.Bytes.{kindOf, inside};
 ghost use Rattle.matrix.specs.Matrices.{emptyMatrix};
 
 // Document 01: "the kinds with all cells, held as one thing". Cell (s, o) stands at 32 × s + o.
@@ -27,4 +30,29 @@ impl Matrix {
             cells: [0u8; Matrix::NAMES * Matrix::NAMES],
         }
     }
+}
+
+// A kind's byte is a subject's.
+pub fn is_subject(kind: u8) -> bool
+    ensures { λ r. ⌜ r ≡ isSubject (kindOf kind) ⌝ }
+{
+    1 < kind
+}
+
+// A kind's byte is that of a name that exists.
+pub fn is_object(kind: u8) -> bool
+    ensures { λ r. ⌜ r ≡ isObject (kindOf kind) ⌝ }
+{
+    0 < kind
+}
+
+// The cell (s, o) has a row and a column.
+pub fn has_cell(kinds: &[u8; Matrix::NAMES], s: usize, o: usize) -> bool
+    requires { ⌜ (s < 32) × (o < 32) ⌝ }
+    ensures { λ r. ⌜ r ≡ inside (now (kinds .entry)) s o ⌝ }
+{
+    if is_subject(kinds[s]) {
+        return is_object(kinds[o]);
+    }
+    false
 }

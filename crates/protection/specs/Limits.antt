@@ -27,3 +27,11 @@ operations = 6
 -- an actual parameter in a position that the command does not use
 abbrev pub unused : ℕ
 unused = 255
+
+-- commands in a file: "there are 0 to 32"
+abbrev pub commands : ℕ
+commands = 32
+
+-- bytes of a file
+abbrev pub fileBytes : ℕ
+fileBytes = 4096

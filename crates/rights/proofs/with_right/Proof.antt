@@ -2,14 +2,10 @@ use Rattle.rights.proofs.Bits.{one-shl}
 use borrow.Author.Needs.{needs}
 use Rattle.rights.proofs.with_right.Statement.{statement}
 use Rattle.rights.proofs.with_right.Tie as tie
-use Rattle.rights.proofs.with_right.Reads as reads
-use Rattle.rights.proofs.with_right.Lts as lts
 
--- src/lib.rt:19:12
 shl-result : tie.Need-shl-result
 shl-result c = search needs
 
--- src/lib.rt:15:1
 returns : tie.Need-returns
 returns c = simp (one-shl 8 _ (c .pre))
 

@@ -1,0 +1,5 @@
+pub mod Tests
+pub mod Commands
+pub mod Accepted
+pub mod Policies
+pub mod Laws

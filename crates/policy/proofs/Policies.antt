@@ -1,0 +1,223 @@
+-- What the reader of a file hands out. Assumes nothing.
+use Prim.Native.Nat.{ℕ, zero, suc, _+_, _*_, _-_, _≤_, _<_}
+use mathlib.Core.Path.{_≡_, refl, sym, ap, ap₂, _∙_}
+use mathlib.Core.Bool.{Bool, true, false}
+use mathlib.Core.List.{List, [], _∷_, _++_, append-nil}
+use native.Mathlib.Decide.{decLt}
+use native.Mathlib.Numerals.{add-one}
+use native.Mathlib.Omega.{arith}
+use borrow.Author.Tests.{ne-eqb, eq-eqb, lt-ltb, le-ltb}
+use lib.Dec.{eqb, ltb}
+use lib.ListN.{length, getD, take, drop, set, replicate, length-drop, length-replicate, length-set, drop-of-length-le}
+use lib.Seq.{take-length, length-take-le, ext-getD, getD-set-same, getD-set-other}
+use Rattle.cases.specs.Cases.{pick, listed}
+use Rattle.cases.proofs.Lists.{length-listed, getD-listed}
+use Rattle.protection.specs.Limits.{names, commands}
+use Rattle.matrix.specs.Matrices.{emptyMatrix}
+use Rattle.matrix.specs.declared.Matrix.{Matrix}
+use Rattle.policy.specs.File.{byte, word, rightsOf, offsetOf, lengthOf, section, kindsIn, cellsIn, commandIn}
+use Rattle.policy.specs.Refusals.{orElse, headerRefusal, pairsRefusal, sizesRefusal, matrixRefusal, commandRefusal, commandsRefusal, refusal}
+use Rattle.policy.specs.Layout.{MatrixInside, CommandsInside}
+use Rattle.policy.specs.Contents.{noCommand, commandOf, commandRead, noPolicy, commandTable, commandsRead, matrixOf, policyOf, refusedRead, policyRead}
+use Rattle.policy.proofs.Accepted.{HeaderFits, header-accepted, pairs-accepted, sizes-accepted}
+use Rattle.policy.specs.declared.command.Command.{Command}
+use Rattle.policy.specs.declared.command.CommandRead.{CommandRead}
+use Rattle.policy.specs.declared.policy.CommandsRead.{CommandsRead}
+use Rattle.policy.specs.declared.policy.Policy.{Policy}
+use Rattle.policy.specs.declared.policy.PolicyRead.{PolicyRead}
+
+pub none-is : (m : Matrix) (c : Command) → m ≡ emptyMatrix → c ≡ noCommand
+    → _≡_ {A = Policy} (record { rights = 0; commands = 0; matrix = m; command = replicate commands c }) noPolicy
+none-is m c e d = rw (e, d)
+
+pub refused-is : (n : ℕ) (p : Policy) → p ≡ noPolicy → _≡_ {A = PolicyRead} (record { refused = n; policy = p }) (refusedRead n)
+refused-is n p e = rw e
+
+-- ---- the matrix
+-- a section copied into an array of its own length
+copied : (f x : List ℕ) (i w n : ℕ) → w ≡ offsetOf f i → lengthOf f i ≡ n → w + n ≤ length f
+    → x ≡ take (length (take (w + n - w) (drop w f))) (take (w + n - w) (drop w f)) ++ drop (length (take (w + n - w) (drop w f))) (replicate n 0) → x ≡ section f i
+copied f x i w n d e h q =
+    let u : w + n - w ≡ n = omega arith in
+    let s : List ℕ = take (w + n - w) (drop w f) in
+    let k : length s ≡ w + n - w = length-take-le (w + n - w) (drop w f) (simp length-drop (omega arith)) in
+    let z : drop {A = ℕ} (length s) (replicate n 0) ≡ [] = drop-of-length-le (replicate n 0) {i = length s} (let r : length {A = ℕ} (replicate n 0) ≡ n = length-replicate n 0 in omega arith) in
+    q ∙ ap₂ (λ (a b : List ℕ). a ++ b) (take-length s) z ∙ append-nil s ∙ ap₂ (λ (a b : ℕ). take a (drop b f)) (u ∙ sym e) d
+
+pub matrix-is : (f x y : List ℕ) (w v : ℕ) → MatrixInside f → w ≡ word f 2 → v ≡ word f 6
+    → x ≡ take (length (take (w + 32 - w) (drop w f))) (take (w + 32 - w) (drop w f)) ++ drop (length (take (w + 32 - w) (drop w f))) (replicate 32 0)
+    → y ≡ take (length (take (v + 1024 - v) (drop v f))) (take (v + 1024 - v) (drop v f)) ++ drop (length (take (v + 1024 - v) (drop v f))) (replicate 1024 0)
+    → _≡_ {A = Matrix} (record { kinds = x; cells = y }) (matrixOf f)
+matrix-is f x y w v h dw dv ex ey =
+    let ks = h .kinds-size in let cs = h .cells-size in let ke = h .kinds-end in let ce = h .cells-end in
+    let a : x ≡ section f 0 = copied f x 0 w 32 dw ks (omega arith) ex in
+    let b : y ≡ section f 1 = copied f y 1 v 1024 dv cs (omega arith) ey in
+    rw (a, b)
+
+-- ---- the commands
+abbrev tableAt : List ℕ → ℕ → ℕ → Command
+tableAt f n i = pick (ltb i n) (commandOf (commandIn f i)) noCommand
+
+pub table-start : (f : List ℕ) (c : Command) → c ≡ noCommand → replicate commands c ≡ commandTable f 0
+unfolding commandTable
+table-start f c e = rw e
+
+table-set : (f : List ℕ) (i : ℕ) → i < commands → set (commandTable f i) i (commandOf (commandIn f i)) ≡ commandTable f (i + 1)
+unfolding commandTable
+table-set f i h =
+    ext-getD noCommand (set (listed (tableAt f i) commands 0) i (commandOf (commandIn f i))) (listed (tableAt f (i + 1)) commands 0)
+    (length-set (listed (tableAt f i) commands 0) i (commandOf (commandIn f i)) ∙ length-listed (tableAt f i) commands 0 ∙ sym (length-listed (tableAt f (i + 1)) commands 0))
+    (λ j l. at j (omega (arith, length-set (listed (tableAt f i) commands 0) i (commandOf (commandIn f i)), length-listed (tableAt f i) commands 0)) (decLt j i) (decLt i j))
+  where
+    long : length (listed (tableAt f i) commands 0) ≡ commands
+    long = length-listed (tableAt f i) commands 0
+
+    at : (j : ℕ) → j < commands → Dec (j < i) → Dec (i < j)
+        → getD (set (listed (tableAt f i) commands 0) i (commandOf (commandIn f i))) j noCommand ≡ getD (listed (tableAt f (i + 1)) commands 0) j noCommand
+    at j l (yes a) b =
+        getD-set-other (listed (tableAt f i) commands 0) i j (commandOf (commandIn f i)) noCommand (λ e. omega arith)
+        ∙ getD-listed (tableAt f i) noCommand commands 0 j l
+        ∙ rw (lt-ltb (0 + j) i (omega arith), getD-listed (tableAt f (i + 1)) noCommand commands 0 j l, lt-ltb (0 + j) (i + 1) (omega arith))
+    at j l (no a) (yes b) =
+        getD-set-other (listed (tableAt f i) commands 0) i j (commandOf (commandIn f i)) noCommand (λ e. omega arith)
+        ∙ getD-listed (tableAt f i) noCommand commands 0 j l
+        ∙ rw (le-ltb (0 + j) i (omega arith), getD-listed (tableAt f (i + 1)) noCommand commands 0 j l, le-ltb (0 + j) (i + 1) (omega arith))
+    at j l (no a) (no b) =
+        let e : j ≡ i = omega arith in
+        let z : 0 + i ≡ i = omega arith in
+        rw e (getD-set-same (listed (tableAt f i) commands 0) i (commandOf (commandIn f i)) noCommand (omega (arith, long))
+        ∙ sym (getD-listed (tableAt f (i + 1)) noCommand commands 0 i h ∙ rw (lt-ltb (0 + i) (i + 1) (omega arith), z)))
+
+-- ---- one turn of the reader's loop
+pub part-is : (f : List ℕ) (g i w v : ℕ) (x : CommandRead) → w ≡ offsetOf f (2 + i) → v ≡ lengthOf f (2 + i) → x ≡ commandRead g (take (w + v - w) (drop w f)) → x ≡ commandRead g (commandIn f i)
+part-is f g i w v x d e q =
+    let u : w + v - w ≡ v = omega arith in q ∙ ap₂ (λ (a b : ℕ). commandRead g (take a (drop b f))) (u ∙ e) d
+
+module _ (f : List ℕ) (g n i : ℕ) (x : CommandRead) (d : g ≡ rightsOf f) (e : x ≡ commandRead g (commandIn f i)) where
+  refusal-is : x .refused ≡ commandRefusal (rightsOf f) (commandIn f i)
+  unfolding commandRead
+  refusal-is = ap (λ (r : CommandRead). r .refused) e ∙ ap (λ (z : ℕ). commandRefusal z (commandIn f i)) d
+
+  unrolled : i < n → commandsRefusal f (n - i) i ≡ orElse (commandRefusal (rightsOf f) (commandIn f i)) (commandsRefusal f (n - (i + 1)) (i + 1))
+  unfolding commandsRefusal
+  unrolled h = let z : n - i ≡ suc (n - (i + 1)) = omega arith in rw (z, add-one i)
+
+  pub commands-stop : (c : Command) → c ≡ noCommand → (x .refused ≡ 0 → ⊥) → i < n → commandsRefusal f (n - i) i ≡ commandsRefusal f n 0
+      → _≡_ {A = CommandsRead} (record { refused = x .refused; all = replicate commands c }) (commandsRead f n)
+  unfolding commandsRead
+  commands-stop c ec ne h q =
+      let r : commandRefusal (rightsOf f) (commandIn f i) ≡ x .refused = sym refusal-is in
+      let z : eqb (x .refused) 0 ≡ false = ne-eqb (x .refused) 0 ne in
+      let whole : commandsRefusal f n 0 ≡ x .refused = sym q ∙ unrolled h ∙ rw (r, z) in
+      rw (ec, whole, z)
+
+  pub commands-more : x .refused ≡ 0 → i < n → commandsRefusal f (n - i) i ≡ commandsRefusal f n 0 → commandsRefusal f (n - (i + 1)) (i + 1) ≡ commandsRefusal f n 0
+  commands-more z h q =
+      let r : commandRefusal (rightsOf f) (commandIn f i) ≡ 0 = sym refusal-is ∙ z in
+      let u : orElse (commandRefusal (rightsOf f) (commandIn f i)) (commandsRefusal f (n - (i + 1)) (i + 1)) ≡ commandsRefusal f (n - (i + 1)) (i + 1) = rw r in
+      sym u ∙ sym (unrolled h) ∙ q
+
+  pub table-more : (t : List Command) → CommandsInside f n → x .refused ≡ 0 → i < n → t ≡ commandTable f i → set t i (x .command) ≡ commandTable f (i + 1)
+  unfolding commandRead
+  table-more t inside z h q =
+      let r : commandRefusal g (commandIn f i) ≡ 0 = sym (ap (λ (r : CommandRead). r .refused) e) ∙ z in
+      let c : x .command ≡ commandOf (commandIn f i) = ap (λ (r : CommandRead). r .command) e ∙ rw r in
+      ap₂ (λ (a : List Command) (b : Command). set a i b) q c ∙ table-set f i (omega (arith, inside .few))
+
+pub commands-end : (f : List ℕ) (n i : ℕ) (t : List Command) → n ≤ i → i ≤ n → t ≡ commandTable f i → commandsRefusal f (n - i) i ≡ commandsRefusal f n 0
+    → _≡_ {A = CommandsRead} (record { refused = 0; all = t }) (commandsRead f n)
+unfolding commandsRead commandsRefusal
+commands-end f n i t h l q e =
+    let z : i ≡ n = omega arith in
+    let k : n - i ≡ 0 = omega arith in
+    let w : commandsRefusal f n 0 ≡ 0 = sym e ∙ ap (λ (y : ℕ). commandsRefusal f y i) k in
+    rw (w, q, z)
+
+-- ---- the whole file: what each stage may rest on, and what it answers
+module _ (f : List ℕ) (h : ℕ) (dh : h ≡ headerRefusal f) where
+  pub header-stops : (x : PolicyRead) → (h ≡ 0 → ⊥) → x ≡ refusedRead h → x ≡ policyRead f
+  unfolding policyRead refusal
+  header-stops x ne e =
+      let z : eqb h 0 ≡ false = ne-eqb h 0 ne in
+      e ∙ sym (rw (← dh, z, z))
+
+  module _ (zh : h ≡ 0) where
+    header-none : headerRefusal f ≡ 0
+    header-none = sym dh ∙ zh
+
+    pub header-fits : HeaderFits f
+    header-fits = header-accepted f header-none
+
+    module _ (t : ℕ) (dt : t ≡ pairsRefusal f) where
+      pub pairs-stop : (x : PolicyRead) → (t ≡ 0 → ⊥) → x ≡ refusedRead t → x ≡ policyRead f
+      unfolding policyRead refusal
+      pairs-stop x ne e =
+          let z : eqb t 0 ≡ false = ne-eqb t 0 ne in
+          e ∙ sym (rw (header-none, ← dt, z, z))
+
+      module _ (zt : t ≡ 0) where
+        pairs-none : pairsRefusal f ≡ 0
+        pairs-none = sym dt ∙ zt
+
+        module _ (s : ℕ) (ds : s ≡ sizesRefusal f) where
+          pub sizes-stop : (x : PolicyRead) → (s ≡ 0 → ⊥) → x ≡ refusedRead s → x ≡ policyRead f
+          unfolding policyRead refusal
+          sizes-stop x ne e =
+              let z : eqb s 0 ≡ false = ne-eqb s 0 ne in
+              e ∙ sym (rw (header-none, pairs-none, ← ds, z, z))
+
+          module _ (zs : s ≡ 0) where
+            sizes-none : sizesRefusal f ≡ 0
+            sizes-none = sym ds ∙ zs
+
+            pub matrix-inside : MatrixInside f
+            matrix-inside =
+                let k = header-fits .two-pairs in let l = header-fits .table in
+                let z = sizes-accepted f sizes-none in
+                record {
+                  pairs = omega arith;
+                  kinds-size = z .0;
+                  cells-size = z .1;
+                  kinds-end = pairs-accepted f pairs-none 0 (omega arith);
+                  cells-end = pairs-accepted f pairs-none 1 (omega arith);
+                }
+
+            pub commands-inside : CommandsInside f (byte f 1 - 2)
+            commands-inside =
+                let k = header-fits .few-pairs in let l = header-fits .table in
+                record {
+                  few = omega arith;
+                  each = λ i lt. record { pair = omega arith; end = pairs-accepted f pairs-none (2 + i) (omega arith) };
+                }
+
+            module _ (m : Matrix) (c : ℕ) (dm : m ≡ matrixOf f) (dc : c ≡ matrixRefusal (rightsOf f) (m .kinds) (m .cells)) where
+              matrix-is-none : c ≡ matrixRefusal (rightsOf f) (kindsIn f) (cellsIn f)
+              matrix-is-none = dc ∙ ap (λ (z : Matrix). matrixRefusal (rightsOf f) (z .kinds) (z .cells)) dm
+
+              pub matrix-stops : (x : PolicyRead) → (c ≡ 0 → ⊥) → x ≡ refusedRead c → x ≡ policyRead f
+              unfolding policyRead refusal
+              matrix-stops x ne e =
+                  let z : eqb c 0 ≡ false = ne-eqb c 0 ne in
+                  e ∙ sym (rw (header-none, pairs-none, sizes-none, ← matrix-is-none, z, z))
+
+              module _ (zc : c ≡ 0) (r : CommandsRead) (dr : r ≡ commandsRead f (byte f 1 - 2)) where
+                refusal-rest : refusal f ≡ r .refused
+                unfolding refusal commandsRead
+                refusal-rest =
+                    let n : matrixRefusal (rightsOf f) (kindsIn f) (cellsIn f) ≡ 0 = sym matrix-is-none ∙ zc in
+                    rw (header-none, pairs-none, sizes-none, n) (sym (ap (λ (z : CommandsRead). z .refused) dr))
+
+                pub commands-stop-all : (x : PolicyRead) → (r .refused ≡ 0 → ⊥) → x ≡ refusedRead (r .refused) → x ≡ policyRead f
+                unfolding policyRead
+                commands-stop-all x ne e =
+                    let z : eqb (r .refused) 0 ≡ false = ne-eqb (r .refused) 0 ne in
+                    e ∙ sym (rw (refusal-rest, z))
+
+                pub all-read : r .refused ≡ 0
+                    → _≡_ {A = PolicyRead} (record { refused = 0; policy = record { rights = byte f 0; commands = byte f 1 - 2; matrix = m; command = r .all } }) (policyRead f)
+                unfolding policyRead policyOf commandsRead
+                all-read zr =
+                    let w : refusal f ≡ 0 = refusal-rest ∙ zr in
+                    let k : commandsRefusal f (byte f 1 - 2) 0 ≡ 0 = sym (ap (λ (z : CommandsRead). z .refused) dr) ∙ zr in
+                    let a : r .all ≡ commandTable f (byte f 1 - 2) = ap (λ (z : CommandsRead). z .all) dr ∙ rw k in
+                    rw (w, dm, a)

@@ -1,0 +1,49 @@
+-- Where a file holds what (document 01, "The matrix and the house file"). A byte past the file's end reads as 0.
+use Prim.Native.Nat.{ℕ, zero, suc, _+_, _*_, _-_}
+use mathlib.Core.List.{List}
+use lib.ListN.{getD, take, drop}
+
+abbrev pub byte : List ℕ → ℕ → ℕ
+byte f i = getD f i 0
+
+-- "16-bit values low byte first"
+abbrev pub word : List ℕ → ℕ → ℕ
+word f i = byte f i + 256 * byte f (i + 1)
+
+-- "byte 0 is g; byte 1 is the number of pairs"
+abbrev pub rightsOf : List ℕ → ℕ
+rightsOf f = byte f 0
+
+abbrev pub pairsOf : List ℕ → ℕ
+pairsOf f = byte f 1
+
+-- "Then the pairs, .. each an offset (2 bytes, from the file's start) and a length (2 bytes)."
+abbrev pub offsetOf : List ℕ → ℕ → ℕ
+offsetOf f i = word f (2 + 4 * i)
+
+abbrev pub lengthOf : List ℕ → ℕ → ℕ
+lengthOf f i = word f (2 + 4 * i + 2)
+
+abbrev pub pairsEnd : List ℕ → ℕ
+pairsEnd f = 2 + 4 * pairsOf f
+
+-- "The first section begins where the pairs end, each next one where the one before ends, the last ends with the file."
+unfoldable pub startOf : List ℕ → ℕ → ℕ
+startOf f zero = pairsEnd f
+startOf f (suc i) = offsetOf f i + lengthOf f i
+
+abbrev pub section : List ℕ → ℕ → List ℕ
+section f i = take (lengthOf f i) (drop (offsetOf f i) f)
+
+-- "Pair 0, kinds"; "Pair 1, cells"; "Every further pair is a rule, numbered from 0"
+abbrev pub kindsIn : List ℕ → List ℕ
+kindsIn f = section f 0
+
+abbrev pub cellsIn : List ℕ → List ℕ
+cellsIn f = section f 1
+
+abbrev pub commandIn : List ℕ → ℕ → List ℕ
+commandIn f i = section f (2 + i)
+
+abbrev pub commandsOf : List ℕ → ℕ
+commandsOf f = pairsOf f - 2

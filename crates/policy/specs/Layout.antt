@@ -1,0 +1,22 @@
+-- Where the sections lie: what the reader's functions ask of a file whose table of pairs has passed.
+use Prim.Native.Nat.{ℕ, _+_, _*_, _≤_, _<_}
+use mathlib.Core.Path.{_≡_}
+use mathlib.Core.List.{List}
+use lib.ListN.{length}
+use Rattle.protection.specs.Limits.{names, commands}
+use Rattle.policy.specs.File.{offsetOf, lengthOf}
+
+pub record MatrixInside (f : List ℕ) : Type 0 where
+  pub pairs : 10 ≤ length f
+  pub kinds-size : lengthOf f 0 ≡ names
+  pub cells-size : lengthOf f 1 ≡ names * names
+  pub kinds-end : offsetOf f 0 + lengthOf f 0 ≤ length f
+  pub cells-end : offsetOf f 1 + lengthOf f 1 ≤ length f
+
+pub record CommandInside (f : List ℕ) (i : ℕ) : Type 0 where
+  pub pair : 2 + 4 * (2 + i) + 4 ≤ length f
+  pub end : offsetOf f (2 + i) + lengthOf f (2 + i) ≤ length f
+
+pub record CommandsInside (f : List ℕ) (n : ℕ) : Type 0 where
+  pub few : n ≤ commands
+  pub each : (i : ℕ) → i < n → CommandInside f i

@@ -1,0 +1,4 @@
+pub mod File
+pub mod Refusals
+pub mod Layout
+pub mod Contents

@@ -1,0 +1,186 @@
+// A command (document 01: a rule) and its reader.
+ghost use mathlib.Core.Path.{_≡_};
+ghost use Prim.Native.Nat.{_+_, _*_, _≤_, _<_};
+ghost use lib.ListN.{length, take, drop};
+ghost use Rattle.cases.specs.Cases.{each};
+ghost use Rattle.policy.specs.File.{byte};
+ghost use Rattle.policy.specs.Refusals.{conditionFits, conditionFitsAt, operationFits, operationFitsAt, commandRefusal};
+ghost use Rattle.policy.specs.Contents.{filled, noCommand, commandOf, commandRead};
+
+// How many parameters, conditions and operations there are, and their bytes as in the file: 3 for a condition, 4 for an operation.
+pub struct Command {
+    pub parameters: u8,
+    pub conditions: u8,
+    pub operations: u8,
+    pub condition: [u8; 3 * Command::CONDITIONS],
+    pub operation: [u8; 4 * Command::OPERATIONS],
+}
+
+// refused is 0 where the command was read.
+pub struct CommandRead {
+    pub refused: u8,
+    pub command: Command,
+}
+
+impl Command {
+    pub const PARAMETERS: usize = 4;
+
+    pub const CONDITIONS: usize = 4;
+
+    pub const OPERATIONS: usize = 6;
+
+    pub fn none() -> Self
+        ensures { λ r. ⌜ r ≡ noCommand ⌝ }
+    {
+        Command {
+            parameters: 0,
+            conditions: 0,
+            operations: 0,
+            condition: [0u8; 3 * Command::CONDITIONS],
+            operation: [0u8; 4 * Command::OPERATIONS],
+        }
+    }
+}
+
+// The condition at a place of the section names a right below g and parameters of the command.
+fn condition_fits(part: &[u8], g: u8, at: usize) -> bool
+    requires { ⌜ at + 3 ≤ length (now part) ⌝ }
+    ensures { λ r. ⌜ r ≡ conditionFits g (now (part .entry)) at ⌝ }
+{
+    let k = part[0];
+    if part[at] < g {
+        if part[at + 1] < k {
+            return part[at + 2] < k;
+        }
+        return false;
+    }
+    false
+}
+
+fn conditions_fit(part: &[u8], g: u8, count: usize) -> bool
+    requires { ⌜ (count ≤ 4) × (3 + 3 * count ≤ length (now part)) ⌝ }
+    ensures { λ r. ⌜ r ≡ each (conditionFitsAt g (now (part .entry))) count 0 ⌝ }
+{
+    for j in 0..count {
+        if !condition_fits(part, g, 3 + 3 * j) {
+            return false;
+        }
+    }
+    true
+}
+
+// The operation at a place of the section is one of the six, over a right below g and parameters of the command.
+fn operation_fits(part: &[u8], g: u8, at: usize) -> bool
+    requires { ⌜ at + 4 ≤ length (now part) ⌝ }
+    ensures { λ r. ⌜ r ≡ operationFits g (now (part .entry)) at ⌝ }
+{
+    let k = part[0];
+    let kind = part[at];
+    if kind < 1 {
+        return false;
+    }
+    if 6 < kind {
+        return false;
+    }
+    if part[at + 2] < k {
+        if kind < 3 {
+            if part[at + 1] < g {
+                return part[at + 3] < k;
+            }
+            return false;
+        }
+        if part[at + 1] == 0 {
+            return part[at + 3] == 0;
+        }
+        return false;
+    }
+    false
+}
+
+fn operations_fit(part: &[u8], g: u8, from: usize, count: usize) -> bool
+    requires { ⌜ (count ≤ 6) × (from + 4 * count ≤ length (now part)) ⌝ }
+    ensures { λ r. ⌜ r ≡ each (operationFitsAt g (now (part .entry)) from) count 0 ⌝ }
+{
+    for j in 0..count {
+        if !operation_fits(part, g, from + 4 * j) {
+            return false;
+        }
+    }
+    true
+}
+
+// The refusal of a command's section, or 0.
+fn command_refusal(part: &[u8], g: u8) -> u8
+    ensures { λ r. ⌜ r ≡ commandRefusal g (now (part .entry)) ⌝ }
+{
+    if part.len() < 3 {
+        return 5;
+    }
+    let k = part[0] as usize;
+    if k < 1 {
+        return 8;
+    }
+    if Command::PARAMETERS < k {
+        return 8;
+    }
+    let c = part[1] as usize;
+    if Command::CONDITIONS < c {
+        return 8;
+    }
+    let m = part[2] as usize;
+    if m < 1 {
+        return 8;
+    }
+    if Command::OPERATIONS < m {
+        return 8;
+    }
+    let mid = 3 + 3 * c;
+    if part.len() != mid + 4 * m {
+        return 5;
+    }
+    if !conditions_fit(part, g, c) {
+        return 9;
+    }
+    if !operations_fit(part, g, mid, m) {
+        return 9;
+    }
+    0
+}
+
+fn command_of(part: &[u8]) -> Command
+    requires { ⌜ (byte (now part) 1 ≤ 4) × (byte (now part) 2 ≤ 6) × (length (now part) ≡ 3 + 3 * byte (now part) 1 + 4 * byte (now part) 2) ⌝ }
+    ensures { λ r. ⌜ r ≡ commandOf (now (part .entry)) ⌝ }
+{
+    let c = part[1];
+    let m = part[2];
+    let mid = 3 + 3 * (c as usize);
+    let end = part.len();
+    let mut condition = [0u8; 3 * Command::CONDITIONS];
+    bytes::copy(&part[3..mid], &mut condition);
+    let mut operation = [0u8; 4 * Command::OPERATIONS];
+    bytes::copy(&part[mid..end], &mut operation);
+    Command {
+        parameters: part[0],
+        conditions: c,
+        operations: m,
+        condition,
+        operation,
+    }
+}
+
+// The command in its section, with g rights; or why it is refused.
+pub fn read_command(part: &[u8], g: u8) -> CommandRead
+    ensures { λ r. ⌜ r ≡ commandRead g (now (part .entry)) ⌝ }
+{
+    let refused = command_refusal(part, g);
+    if refused != 0 {
+        return CommandRead {
+            refused,
+            command: Command::none(),
+        };
+    }
+    CommandRead {
+        refused: 0,
+        command: command_of(part),
+    }
+}
