@@ -79,3 +79,9 @@ pub each-all : (p : ℕ → Bool) (n j : ℕ) → ((i : ℕ) → j ≤ i → i <
 unfolding each
 each-all p zero j h = refl
 each-all p (suc n) j h = rw (h j (omega arith) (omega arith)) (each-all p n (suc j) (λ i l k. h i (omega arith) (omega arith)))
+
+-- tests that agree at all n numbers
+pub each-same : (p q : ℕ → Bool) (n j : ℕ) → ((i : ℕ) → j ≤ i → i < j + n → p i ≡ q i) → each p n j ≡ each q n j
+unfolding each
+each-same p q zero j h = refl
+each-same p q (suc n) j h = rw (h j (omega arith) (omega arith), each-same p q n (suc j) (λ i l k. h i (omega arith) (omega arith)))

@@ -7,6 +7,6 @@ ghost use Rattle.policy.specs.Refusals.{refusal};
 pub extern "C" fn access_check(file: &[u8]) -> u8
     ensures { λ r. ⌜ r ≡ refusal (now (file .entry)) ⌝ }
 {
-    let read = policy::policy::read_policy(file);
+    let read = policy::read_policy(file);
     read.refused
 }

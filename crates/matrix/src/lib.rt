@@ -5,6 +5,8 @@ ghost use Rattle.protection.specs.State.{isObject, isSubject};
 ghost use Rattle.matrix.specs.Bytes.{kindOf, inside};
 ghost use Rattle.matrix.specs.Matrices.{emptyMatrix};
 
+pub mod cells;
+
 // Document 01: "the kinds with all cells, held as one thing". Cell (s, o) stands at 32 × s + o.
 pub struct Matrix {
     pub kinds: [u8; Matrix::NAMES],

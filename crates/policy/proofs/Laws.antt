@@ -8,7 +8,7 @@ use lib.Dec.{eqb}
 use Rattle.cases.specs.Cases.{pick}
 use Rattle.policy.specs.Refusals.{refusal}
 use Rattle.policy.specs.Contents.{policyOf, refusedRead, policyRead}
-use Rattle.policy.specs.declared.policy.PolicyRead.{PolicyRead}
+use Rattle.policy.specs.declared.PolicyRead.{PolicyRead}
 
 pub read-refusal : (f : List ℕ) (x : PolicyRead) → x ≡ policyRead f → x .refused ≡ refusal f
 unfolding policyRead

@@ -1,5 +1,5 @@
-pub mod Tests
-pub mod Commands
 pub mod Accepted
 pub mod Policies
 pub mod Laws
+pub mod FileState
+pub mod Rewritten

@@ -15,16 +15,20 @@ use Rattle.cases.proofs.Lists.{length-listed, getD-listed}
 use Rattle.protection.specs.Limits.{names, commands}
 use Rattle.matrix.specs.Matrices.{emptyMatrix}
 use Rattle.matrix.specs.declared.Matrix.{Matrix}
-use Rattle.policy.specs.File.{byte, word, rightsOf, offsetOf, lengthOf, section, kindsIn, cellsIn, commandIn}
-use Rattle.policy.specs.Refusals.{orElse, headerRefusal, pairsRefusal, sizesRefusal, matrixRefusal, commandRefusal, commandsRefusal, refusal}
+use Rattle.layout.specs.File.{byte, word, rightsOf, offsetOf, lengthOf, section, kindsIn, cellsIn, commandIn}
+use Rattle.layout.specs.Refusals.{orElse, headerRefusal, pairsRefusal, sizesRefusal}
+use Rattle.commands.specs.Refusals.{commandRefusal}
+use Rattle.matrix.specs.Refusals.{matrixRefusal}
+use Rattle.policy.specs.Refusals.{commandsRefusal, refusal}
 use Rattle.policy.specs.Layout.{MatrixInside, CommandsInside}
-use Rattle.policy.specs.Contents.{noCommand, commandOf, commandRead, noPolicy, commandTable, commandsRead, matrixOf, policyOf, refusedRead, policyRead}
-use Rattle.policy.proofs.Accepted.{HeaderFits, header-accepted, pairs-accepted, sizes-accepted}
-use Rattle.policy.specs.declared.command.Command.{Command}
-use Rattle.policy.specs.declared.command.CommandRead.{CommandRead}
-use Rattle.policy.specs.declared.policy.CommandsRead.{CommandsRead}
-use Rattle.policy.specs.declared.policy.Policy.{Policy}
-use Rattle.policy.specs.declared.policy.PolicyRead.{PolicyRead}
+use Rattle.commands.specs.Contents.{noCommand, commandOf, commandRead}
+use Rattle.policy.specs.Contents.{noPolicy, commandTable, commandsRead, matrixOf, policyOf, refusedRead, policyRead}
+use Rattle.layout.proofs.Accepted.{HeaderFits, header-accepted, pairs-accepted, sizes-accepted}
+use Rattle.commands.specs.declared.Command.{Command}
+use Rattle.commands.specs.declared.CommandRead.{CommandRead}
+use Rattle.policy.specs.declared.CommandsRead.{CommandsRead}
+use Rattle.policy.specs.declared.Policy.{Policy}
+use Rattle.policy.specs.declared.PolicyRead.{PolicyRead}
 
 pub none-is : (m : Matrix) (c : Command) → m ≡ emptyMatrix → c ≡ noCommand
     → _≡_ {A = Policy} (record { rights = 0; commands = 0; matrix = m; command = replicate commands c }) noPolicy

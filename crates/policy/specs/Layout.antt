@@ -4,7 +4,7 @@ use mathlib.Core.Path.{_≡_}
 use mathlib.Core.List.{List}
 use lib.ListN.{length}
 use Rattle.protection.specs.Limits.{names, commands}
-use Rattle.policy.specs.File.{offsetOf, lengthOf}
+use Rattle.layout.specs.File.{offsetOf, lengthOf}
 
 pub record MatrixInside (f : List ℕ) : Type 0 where
   pub pairs : 10 ≤ length f

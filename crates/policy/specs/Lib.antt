@@ -1,4 +1,3 @@
-pub mod File
 pub mod Refusals
 pub mod Layout
 pub mod Contents

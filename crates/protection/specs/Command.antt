@@ -1,8 +1,9 @@
 -- Commands (document 01: rules) and calls of them (rule runs). Parameters are document 01's blanks, operations its steps.
 use mathlib.Core.Bool.{Bool, true, false, _||_}
 use mathlib.Core.List.{List, [], _∷_}
-use Prim.Native.Nat.{ℕ, zero, suc}
+use Prim.Native.Nat.{ℕ}
 use lib.Dec.{eqb}
+use lib.ListN.{getD}
 
 -- the right is in the cell of the two parameters
 pub record Condition : Type 0 where
@@ -36,11 +37,11 @@ pub record Call : Type 0 where
 abbrev pub Actuals : Type 0
 Actuals = ℕ → ℕ
 
+abbrev pub valuesOf : List ℕ → Actuals
+valuesOf l b = getD l b 0
+
 abbrev pub actuals : Call → Actuals
-actuals x zero = x .a0
-actuals x (suc zero) = x .a1
-actuals x (suc (suc zero)) = x .a2
-actuals x (suc (suc (suc i))) = x .a3
+actuals x = valuesOf (x .a0 ∷ x .a1 ∷ x .a2 ∷ x .a3 ∷ [])
 
 -- ---- which parameters a command names
 abbrev pub inConditions : ℕ → List Condition → Bool

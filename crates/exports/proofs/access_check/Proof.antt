@@ -2,9 +2,6 @@ use Rattle.policy.proofs.Laws.{read-refusal}
 use borrow.Author.Needs.{needs}
 use Rattle.exports.proofs.access_check.Statement.{statement}
 use Rattle.exports.proofs.access_check.Tie as tie
-use Rattle.exports.proofs.access_check.Reads as reads
-use Rattle.exports.proofs.access_check.Lts as lts
-use Rattle.policy.proofs.policy.read_policy.Reads as read-policy-reads
 
 read-policy-requires : tie.Need-read-policy-requires
 read-policy-requires c κs = search needs

@@ -1,0 +1,83 @@
+use Prim.Native.Nat.{_≤_, _-_}
+use mathlib.Core.Path.{_≡_, refl}
+use native.Mathlib.Nat.{sub-zero}
+use Rattle.cases.specs.Cases.{listed}
+use Rattle.protection.specs.Command.{inConditions}
+use Rattle.commands.specs.Contents.{conditionOf}
+use Rattle.commands.proofs.Names.{condition-found, condition-next, conditions-end}
+use borrow.Author.Needs.{needs}
+use native.Mathlib.Omega.{arith}
+use Rattle.commands.proofs.Command.in_conditions.Statement.{statement}
+use Rattle.commands.proofs.Command.in_conditions.Tie as tie
+use Rattle.commands.proofs.Command.in_conditions.Reads as reads
+use Rattle.commands.proofs.Command.in_conditions.Lts as lts
+use Rattle.commands.proofs.either.Reads as either-reads
+
+abbrev Inv-loop : tie.InvT-loop
+Inv-loop b self n j₀ j = (j ≤ n) × (n ≡ self .conditions) × (inConditions b (listed (conditionOf self) (n - j) j) ≡ inConditions b (listed (conditionOf self) (self .conditions) 0))
+
+abbrev μ-loop : tie.MeasureT-loop
+μ-loop b self n j₀ j = n - j
+
+cast-n : tie.Need-cast-n Inv-loop μ-loop
+cast-n c = search needs
+
+loop-holds : tie.Need-loop-holds Inv-loop μ-loop
+loop-holds c = (omega arith, refl, rw sub-zero)
+
+mul-either : tie.Need-mul-either Inv-loop μ-loop
+mul-either c = search needs
+
+add-either : tie.Need-add-either Inv-loop μ-loop
+add-either c = search needs
+
+element-copy-out-either : tie.Need-element-copy-out-either Inv-loop μ-loop
+element-copy-out-either c = search needs
+
+mul-either-2 : tie.Need-mul-either-2 Inv-loop μ-loop
+mul-either-2 c = search needs
+
+add-either-2 : tie.Need-add-either-2 Inv-loop μ-loop
+add-either-2 c = search needs
+
+element-copy-out-either-2 : tie.Need-element-copy-out-either-2 Inv-loop μ-loop
+element-copy-out-either-2 c = search needs
+
+either-requires : tie.Need-either-requires Inv-loop μ-loop
+either-requires c κs = search needs
+
+returns : tie.Need-returns Inv-loop μ-loop
+returns c = search condition-found
+
+add-j : tie.Need-add-j Inv-loop μ-loop
+add-j c = omega arith
+
+loop-less : tie.Need-loop-less Inv-loop μ-loop
+loop-less c = omega arith
+
+loop-again : tie.Need-loop-again Inv-loop μ-loop
+loop-again c = (omega arith, refl, search condition-next)
+
+returns-2 : tie.Need-returns-2 Inv-loop μ-loop
+returns-2 c = search conditions-end
+
+pub in-conditions-spec : {M : Type 1} → statement M
+in-conditions-spec =
+    tie.close
+    (tie.spec
+    Inv-loop
+    μ-loop
+    cast-n
+    loop-holds
+    mul-either
+    add-either
+    element-copy-out-either
+    mul-either-2
+    add-either-2
+    element-copy-out-either-2
+    either-requires
+    returns
+    add-j
+    loop-less
+    loop-again
+    returns-2)

@@ -1,0 +1,101 @@
+-- The command that the reader hands out fits. Assumes nothing.
+use Prim.Native.Nat.{ℕ, zero, suc, _+_, _*_, _-_, _≤_, _<_}
+use mathlib.Core.Path.{_≡_, refl, sym, ap, _∙_, subst}
+use mathlib.Core.Bool.{Bool, true, false}
+use mathlib.Core.List.{List, _++_}
+use native.Mathlib.Omega.{arith}
+use borrow.Author.Tests.{ltb-true, ltb-false, eqb-true}
+use lib.Dec.{eqb, ltb}
+use lib.ListN.{length, getD, take, drop, replicate, length-drop, List·getD-append}
+use lib.Seq.{length-take-le, getD-take, getD-drop}
+use Rattle.cases.specs.Cases.{pick, each}
+use Rattle.cases.proofs.Loops.{each-at}
+use Rattle.layout.specs.File.{byte}
+use Rattle.commands.specs.Refusals.{conditionFits, conditionFitsAt, operationFits, operationFitsAt, commandRefusal}
+use Rattle.commands.specs.Contents.{filled, commandOf}
+use Rattle.commands.specs.Fits.{Fits}
+use Rattle.commands.proofs.Accepted.{CommandFits}
+
+-- ---- tests that held
+both : (a b : Bool) → pick a b false ≡ true → (a ≡ true) × (b ≡ true)
+both true b e = (refl, e)
+both false b e = absurd (let z : _≡_ {A = ℕ} 0 1 = cc in omega arith)
+
+none : (a b : Bool) → pick a false b ≡ true → b ≡ true
+none true b e = absurd (let z : _≡_ {A = ℕ} 0 1 = cc in omega arith)
+none false b e = e
+
+module _ (g : ℕ) (p : List ℕ) (i : ℕ) where
+  condition-facts : conditionFits g p i ≡ true → (byte p i < g) × (byte p (i + 1) < byte p 0) × (byte p (i + 2) < byte p 0)
+  unfolding conditionFits
+  condition-facts e =
+      let t1 = both (ltb (byte p i) g) _ e in
+      let t2 = both (ltb (byte p (i + 1)) (byte p 0)) _ (t1 .1) in
+      (ltb-true (byte p i) g (t1 .0), ltb-true (byte p (i + 1)) (byte p 0) (t2 .0), ltb-true (byte p (i + 2)) (byte p 0) (t2 .1))
+
+  operation-facts : 1 ≤ g → operationFits g p i ≡ true → (byte p (i + 1) < g) × (byte p (i + 2) < byte p 0) × (byte p (i + 3) < byte p 0)
+  unfolding operationFits
+  operation-facts lg e =
+      let t1 = none (ltb (byte p i) 1) _ e in
+      let t2 = none (ltb 6 (byte p i)) _ t1 in
+      let t3 = both (ltb (byte p (i + 2)) (byte p 0)) _ t2 in
+      let first : byte p (i + 2) < byte p 0 = ltb-true (byte p (i + 2)) (byte p 0) (t3 .0) in
+      go first (ltb (byte p i) 3) (t3 .1)
+    where
+      go : byte p (i + 2) < byte p 0 → (b : Bool)
+          → pick b (pick (ltb (byte p (i + 1)) g) (ltb (byte p (i + 3)) (byte p 0)) false) (pick (eqb (byte p (i + 1)) 0) (eqb (byte p (i + 3)) 0) false) ≡ true
+          → (byte p (i + 1) < g) × (byte p (i + 2) < byte p 0) × (byte p (i + 3) < byte p 0)
+      go first true e =
+          let t = both (ltb (byte p (i + 1)) g) _ e in
+          (ltb-true (byte p (i + 1)) g (t .0), first, ltb-true (byte p (i + 3)) (byte p 0) (t .1))
+      go first false e =
+          let t = both (eqb (byte p (i + 1)) 0) _ e in
+          let r : byte p (i + 1) ≡ 0 = eqb-true (byte p (i + 1)) 0 (t .0) in
+          let s : byte p (i + 3) ≡ 0 = eqb-true (byte p (i + 3)) 0 (t .1) in
+          (omega arith, first, omega arith)
+
+-- ---- bytes of the section in the command's arrays
+part-at : (p : List ℕ) (size from n i : ℕ) → from + n ≤ length p → i < n → getD (filled size (take n (drop from p))) i 0 ≡ byte p (from + i)
+part-at p size from n i h l =
+    let k : length (take n (drop from p)) ≡ n = length-take-le n (drop from p) (simp length-drop (omega arith)) in
+    List·getD-append (take n (drop from p)) (replicate (size - length (take n (drop from p))) 0) 0 i (omega arith)
+    ∙ getD-take n (drop from p) i 0 l ∙ getD-drop from p i 0
+
+module _ (g : ℕ) (p : List ℕ) (A : CommandFits g p) where
+  in-condition : (i : ℕ) → i < 3 * byte p 1 → getD (commandOf p .condition) i 0 ≡ byte p (3 + i)
+  unfolding commandOf
+  in-condition i l = part-at p 12 3 (3 * byte p 1) i (omega (arith, A .size)) l
+
+  in-operation : (i : ℕ) → i < 4 * byte p 2 → getD (commandOf p .operation) i 0 ≡ byte p (3 + 3 * byte p 1 + i)
+  unfolding commandOf
+  in-operation i l = part-at p 24 (3 + 3 * byte p 1) (4 * byte p 2) i (omega (arith, A .size)) l
+
+  condition-at : (j : ℕ) → j < byte p 1 → (byte p (3 + 3 * j) < g) × (byte p (3 + 3 * j + 1) < byte p 0) × (byte p (3 + 3 * j + 2) < byte p 0)
+  condition-at j l = condition-facts g p (3 + 3 * j) (each-at (conditionFitsAt g p) (byte p 1) 0 (A .conditions-fit) j (omega arith) (omega arith))
+
+  module _ (lg : 1 ≤ g) where
+    abbrev at : ℕ → ℕ
+    at j = 3 + 3 * byte p 1 + 4 * j
+
+    operation-at : (j : ℕ) → j < byte p 2 → (byte p (at j + 1) < g) × (byte p (at j + 2) < byte p 0) × (byte p (at j + 3) < byte p 0)
+    operation-at j l = operation-facts g p (at j) lg (each-at (operationFitsAt g p (3 + 3 * byte p 1)) (byte p 2) 0 (A .operations-fit) j (omega arith) (omega arith))
+
+    pub command-fits : Fits g (commandOf p)
+    unfolding commandOf
+    command-fits = record {
+        few-parameters = A .few-parameters;
+        few-conditions = A .few-conditions;
+        some-operation = A .some-operation;
+        few-operations = A .few-operations;
+        condition-right = λ j l. below (3 * j) g (in-condition (3 * j) (omega arith)) (condition-at j l .0);
+        condition-subject = λ j l. below (3 * j + 1) (byte p 0) (in-condition (3 * j + 1) (omega arith) ∙ ap (byte p) (omega arith)) (condition-at j l .1);
+        condition-object = λ j l. below (3 * j + 2) (byte p 0) (in-condition (3 * j + 2) (omega arith) ∙ ap (byte p) (omega arith)) (condition-at j l .2);
+        operation-right = λ j l. reach (4 * j + 1) g (in-operation (4 * j + 1) (omega arith) ∙ ap (byte p) (omega arith)) (operation-at j l .0);
+        operation-first = λ j l. reach (4 * j + 2) (byte p 0) (in-operation (4 * j + 2) (omega arith) ∙ ap (byte p) (omega arith)) (operation-at j l .1);
+        operation-second = λ j l. reach (4 * j + 3) (byte p 0) (in-operation (4 * j + 3) (omega arith) ∙ ap (byte p) (omega arith)) (operation-at j l .2) }
+      where
+        below : (i b : ℕ) {x : ℕ} → getD (commandOf p .condition) i 0 ≡ x → x < b → getD (commandOf p .condition) i 0 < b
+        below i b e l = rw e l
+
+        reach : (i b : ℕ) {x : ℕ} → getD (commandOf p .operation) i 0 ≡ x → x < b → getD (commandOf p .operation) i 0 < b
+        reach i b e l = rw e l

@@ -1,0 +1,4 @@
+pub mod Accepted
+pub mod Contents
+pub mod Names
+pub mod Fitting

@@ -1,0 +1,30 @@
+use Rattle.cases.proofs.Picks.{on-is, on-isnt}
+use Rattle.layout.specs.Refusals.{sizesRefusal}
+use borrow.Author.Needs.{needs}
+use Rattle.layout.proofs.sizes_refusal.Statement.{statement}
+use Rattle.layout.proofs.sizes_refusal.Tie as tie
+
+word-at-requires : tie.Need-word-at-requires
+word-at-requires c κs = search needs
+
+returns : tie.Need-returns
+unfolding sizesRefusal
+returns c = search (on-is, on-isnt) depth 8
+
+word-at-requires-2 : tie.Need-word-at-requires-2
+word-at-requires-2 c κs = search needs
+
+mul-if2 : tie.Need-mul-if2
+mul-if2 c = search needs
+
+returns-2 : tie.Need-returns-2
+unfolding sizesRefusal
+returns-2 c = search (on-is, on-isnt) depth 8
+
+returns-3 : tie.Need-returns-3
+unfolding sizesRefusal
+returns-3 c = search (on-is, on-isnt) depth 8
+
+pub sizes-refusal-spec : {M : Type 1} → statement M
+sizes-refusal-spec =
+    tie.close (tie.spec word-at-requires returns word-at-requires-2 mul-if2 returns-2 returns-3)

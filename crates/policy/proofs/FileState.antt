@@ -1,0 +1,115 @@
+-- An accepted file's kinds and cells are as the machine's state has them: read as a state and written back they are the same bytes. Assumes nothing.
+use Prim.Native.Nat.{ℕ, zero, suc, _+_, _*_, _-_, _/_, _%_, _^_, _≤_, _<_}
+use mathlib.Core.Path.{_≡_, refl, sym, ap, ap₂, _∙_, subst}
+use mathlib.Core.Bool.{Bool, true, false, not}
+use mathlib.Core.List.{List, _++_, append-assoc}
+use native.Mathlib.Decide.{decLt}
+use native.Mathlib.Omega.{arith}
+use borrow.Author.Tests.{leb-true, ltb-true, eqb-true}
+use lib.Dec.{T, leb, eqb, ltb, T-not}
+use lib.ListN.{length, getD, take, drop, length-drop, take-append-drop, List·getD-eq-default}
+use lib.Pow.{pow-pos}
+use lib.Seq.{length-take-le, drop-drop}
+use Rattle.cases.specs.Cases.{pick, each}
+use Rattle.cases.proofs.Loops.{each-at}
+use Rattle.rights.specs.Rights.{within}
+use Rattle.protection.specs.Limits.{names, rights}
+use Rattle.protection.specs.State.{State}
+use Rattle.matrix.specs.Bytes.{inside, view, kindsOf, cellsOf}
+use Rattle.matrix.proofs.Inverse.{Canonical, Proper, view-proper, kinds-back, cells-back}
+use Rattle.layout.specs.File.{byte, rightsOf, pairsOf, offsetOf, lengthOf, startOf, section, kindsIn, cellsIn}
+use Rattle.matrix.specs.Refusals.{kindFits, cellFits}
+use Rattle.policy.specs.Refusals.{refusal}
+use Rattle.policy.specs.Contents.{over, written, fileState}
+use Rattle.layout.proofs.Accepted.{pairs-accepted, sizes-accepted, sections-placed}
+use Rattle.policy.proofs.Accepted.{Accepted, accepted, matrix-accepted}
+
+-- ---- sections
+pub section-length : (f : List ℕ) (i : ℕ) → offsetOf f i + lengthOf f i ≤ length f → length (section f i) ≡ lengthOf f i
+section-length f i h = length-take-le (lengthOf f i) (drop (offsetOf f i) f) (simp length-drop (omega arith))
+
+-- a section written where it stands changes nothing
+over-section : (f : List ℕ) (at n : ℕ) → at + n ≤ length f → over f at (take n (drop at f)) ≡ f
+over-section f at n h =
+    let k : length (take n (drop at f)) ≡ n = length-take-le n (drop at f) (simp length-drop (omega arith)) in
+    ap (λ (z : ℕ). (take at f ++ take n (drop at f)) ++ drop (at + z) f) k
+    ∙ append-assoc (take at f) (take n (drop at f)) (drop (at + n) f)
+    ∙ ap (λ (l : List ℕ). take at f ++ (take n (drop at f) ++ l)) (sym (drop-drop n at f))
+    ∙ ap (λ (l : List ℕ). take at f ++ l) (take-append-drop n (drop at f))
+    ∙ take-append-drop at f
+
+-- ---- one cell that passed
+cell-facts : (g : ℕ) (ks cs : List ℕ) (c : ℕ) → cellFits g ks cs c ≡ true → (getD cs c 0 < 2 ^ g) × (T (not (inside ks (c / names) (c % names))) → getD cs c 0 ≡ 0)
+unfolding cellFits
+cell-facts g ks cs c e = go (within (byte cs c) g) (inside ks (c / names) (c % names)) refl e
+  where
+    go : (a b : Bool) → within (byte cs c) g ≡ a → pick a (pick b true (eqb (byte cs c) 0)) false ≡ true → (getD cs c 0 < 2 ^ g) × (T (not b) → getD cs c 0 ≡ 0)
+    go true true d e = (ltb-true (byte cs c) (2 ^ g) d, λ t. absurd t)
+    go true false d e = (ltb-true (byte cs c) (2 ^ g) d, λ _. eqb-true (byte cs c) 0 e)
+    go false b d e = absurd (let z : _≡_ {A = ℕ} 0 1 = cc in omega arith)
+
+module _ (f : List ℕ) (A : Accepted f) where
+  two : 2 ≤ pairsOf f
+  two = A .header .two-pairs
+
+  kinds-inside : offsetOf f 0 + names ≤ length f
+  kinds-inside = let z = sizes-accepted f (A .sizes) .0 in let e = pairs-accepted f (A .pairs) 0 (omega (arith, two)) in omega arith
+
+  cells-inside : offsetOf f 1 + names * names ≤ length f
+  cells-inside = let z = sizes-accepted f (A .sizes) .1 in let e = pairs-accepted f (A .pairs) 1 (omega (arith, two)) in omega arith
+
+  pub kinds-length : length (kindsIn f) ≡ names
+  kinds-length = section-length f 0 (pairs-accepted f (A .pairs) 0 (omega (arith, two))) ∙ sizes-accepted f (A .sizes) .0
+
+  pub cells-length : length (cellsIn f) ≡ names * names
+  cells-length = section-length f 1 (pairs-accepted f (A .pairs) 1 (omega (arith, two))) ∙ sizes-accepted f (A .sizes) .1
+
+  kind-fits : (x : ℕ) → getD (kindsIn f) x 0 ≤ 2
+  kind-fits x = go (decLt x names)
+    where
+      go : Dec (x < names) → getD (kindsIn f) x 0 ≤ 2
+      go (yes l) = leb-true (byte (kindsIn f) x) 2 (each-at (kindFits (kindsIn f)) names 0 (matrix-accepted (rightsOf f) (kindsIn f) (cellsIn f) (A .matrix) .0) x (omega arith) (omega arith))
+      go (no l) =
+          let e = kinds-length in
+          let z : getD (kindsIn f) x 0 ≡ 0 = List·getD-eq-default (kindsIn f) 0 {n = x} (omega arith) in
+          rw z (omega arith)
+
+  cell-at : (c : ℕ) → c < names * names → cellFits (rightsOf f) (kindsIn f) (cellsIn f) c ≡ true
+  cell-at c l = each-at (cellFits (rightsOf f) (kindsIn f) (cellsIn f)) (names * names) 0 (matrix-accepted (rightsOf f) (kindsIn f) (cellsIn f) (A .matrix) .1) c (omega arith) (omega arith)
+
+  cell-fits : (c : ℕ) → getD (cellsIn f) c 0 < 2 ^ rightsOf f
+  cell-fits c = go (decLt c (names * names))
+    where
+      go : Dec (c < names * names) → getD (cellsIn f) c 0 < 2 ^ rightsOf f
+      go (yes l) = cell-facts (rightsOf f) (kindsIn f) (cellsIn f) c (cell-at c l) .0
+      go (no l) =
+          let e = cells-length in
+          let z : getD (cellsIn f) c 0 ≡ 0 = List·getD-eq-default (cellsIn f) 0 {n = c} (omega arith) in
+          rw z (pow-pos (rightsOf f))
+
+  cell-outside : (s o : ℕ) → s < names → o < names → T (not (inside (kindsIn f) s o)) → getD (cellsIn f) (names * s + o) 0 ≡ 0
+  cell-outside s o ls lo t =
+      let es : (names * s + o) / names ≡ s = omega arith in
+      let eo : (names * s + o) % names ≡ o = omega arith in
+      cell-facts (rightsOf f) (kindsIn f) (cellsIn f) (names * s + o) (cell-at (names * s + o) (omega arith)) .1
+      (subst (λ (z : ℕ). T (not (inside (kindsIn f) z ((names * s + o) % names)))) (sym es) (subst (λ (z : ℕ). T (not (inside (kindsIn f) s z))) (sym eo) t))
+
+  pub file-canonical : Canonical (rightsOf f) (kindsIn f) (cellsIn f)
+  file-canonical = record { kinds-length = kinds-length; cells-length = cells-length; kinds-fit = kind-fits; cells-fit = cell-fits; outside = cell-outside }
+
+  pub file-proper : Proper (rightsOf f) (fileState f)
+  file-proper = view-proper (rightsOf f) (kindsIn f) (cellsIn f) file-canonical
+
+  pub file-kinds : kindsOf (fileState f) ≡ kindsIn f
+  file-kinds = kinds-back (rightsOf f) (kindsIn f) (cellsIn f) file-canonical
+
+  pub file-cells : cellsOf (fileState f) ≡ cellsIn f
+  file-cells = cells-back (rightsOf f) (kindsIn f) (cellsIn f) file-canonical (A .header .few-rights)
+
+  -- an accepted file, read as a state and written back, is the file
+  pub written-back : written f (fileState f) ≡ f
+  unfolding written
+  written-back =
+      ap₂ (λ (k c : List ℕ). over (over f (offsetOf f 0) k) (offsetOf f 1) c) file-kinds file-cells
+      ∙ ap (λ (l : List ℕ). over l (offsetOf f 1) (cellsIn f)) (over-section f (offsetOf f 0) (lengthOf f 0) (pairs-accepted f (A .pairs) 0 (omega (arith, two))))
+      ∙ over-section f (offsetOf f 1) (lengthOf f 1) (pairs-accepted f (A .pairs) 1 (omega (arith, two)))

@@ -1,0 +1,13 @@
+use Rattle.policy.proofs.Policies.{refused-is}
+use borrow.Author.Needs.{needs}
+use Rattle.policy.proofs.refused_with.Statement.{statement}
+use Rattle.policy.proofs.refused_with.Tie as tie
+
+none-requires : tie.Need-none-requires
+none-requires c κs = search needs
+
+returns : tie.Need-returns
+returns c = search refused-is
+
+pub refused-with-spec : {M : Type 1} → statement M
+refused-with-spec = tie.close (tie.spec none-requires returns)
