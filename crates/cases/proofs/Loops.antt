@@ -85,3 +85,11 @@ pub each-same : (p q : ℕ → Bool) (n j : ℕ) → ((i : ℕ) → j ≤ i → 
 unfolding each
 each-same p q zero j h = refl
 each-same p q (suc n) j h = rw (h j (omega arith) (omega arith), each-same p q n (suc j) (λ i l k. h i (omega arith) (omega arith)))
+
+-- what each numbered turn brings one further, all turns bring to the end
+pub turns-count : {S : Type 0} (P : ℕ → S → Type 0) (f : ℕ → S → S) (n j : ℕ) → ((i : ℕ) (s : S) → j ≤ i → i < j + n → P i s → P (suc i) (f i s)) → (s : S) → P j s → P (j + n) (turns f n j s)
+unfolding turns
+turns-count P f zero j h s p = let z : j + 0 ≡ j = omega arith in rw z p
+turns-count P f (suc n) j h s p =
+    let z : j + suc n ≡ suc j + n = omega arith in
+    rw z (turns-count P f n (suc j) (λ i t l k. h i t (omega arith) (omega arith)) (f j s) (h j s (omega arith) (omega arith) p))

@@ -83,16 +83,17 @@ module _ (g : ℕ) (p : List ℕ) (A : CommandFits g p) where
     pub command-fits : Fits g (commandOf p)
     unfolding commandOf
     command-fits = record {
-        few-parameters = A .few-parameters;
-        few-conditions = A .few-conditions;
-        some-operation = A .some-operation;
-        few-operations = A .few-operations;
-        condition-right = λ j l. below (3 * j) g (in-condition (3 * j) (omega arith)) (condition-at j l .0);
-        condition-subject = λ j l. below (3 * j + 1) (byte p 0) (in-condition (3 * j + 1) (omega arith) ∙ ap (byte p) (omega arith)) (condition-at j l .1);
-        condition-object = λ j l. below (3 * j + 2) (byte p 0) (in-condition (3 * j + 2) (omega arith) ∙ ap (byte p) (omega arith)) (condition-at j l .2);
-        operation-right = λ j l. reach (4 * j + 1) g (in-operation (4 * j + 1) (omega arith) ∙ ap (byte p) (omega arith)) (operation-at j l .0);
-        operation-first = λ j l. reach (4 * j + 2) (byte p 0) (in-operation (4 * j + 2) (omega arith) ∙ ap (byte p) (omega arith)) (operation-at j l .1);
-        operation-second = λ j l. reach (4 * j + 3) (byte p 0) (in-operation (4 * j + 3) (omega arith) ∙ ap (byte p) (omega arith)) (operation-at j l .2) }
+      few-parameters = A .few-parameters;
+      few-conditions = A .few-conditions;
+      some-operation = A .some-operation;
+      few-operations = A .few-operations;
+      condition-right = λ j l. below (3 * j) g (in-condition (3 * j) (omega arith)) (condition-at j l .0);
+      condition-subject = λ j l. below (3 * j + 1) (byte p 0) (in-condition (3 * j + 1) (omega arith) ∙ ap (byte p) (omega arith)) (condition-at j l .1);
+      condition-object = λ j l. below (3 * j + 2) (byte p 0) (in-condition (3 * j + 2) (omega arith) ∙ ap (byte p) (omega arith)) (condition-at j l .2);
+      operation-right = λ j l. reach (4 * j + 1) g (in-operation (4 * j + 1) (omega arith) ∙ ap (byte p) (omega arith)) (operation-at j l .0);
+      operation-first = λ j l. reach (4 * j + 2) (byte p 0) (in-operation (4 * j + 2) (omega arith) ∙ ap (byte p) (omega arith)) (operation-at j l .1);
+      operation-second = λ j l. reach (4 * j + 3) (byte p 0) (in-operation (4 * j + 3) (omega arith) ∙ ap (byte p) (omega arith)) (operation-at j l .2);
+    }
       where
         below : (i b : ℕ) {x : ℕ} → getD (commandOf p .condition) i 0 ≡ x → x < b → getD (commandOf p .condition) i 0 < b
         below i b e l = rw e l

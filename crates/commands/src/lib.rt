@@ -231,8 +231,16 @@ fn operation_names(operation: Operation, b: u8) -> bool
     ensures { λ r. ⌜ r ≡ inOperation b (modelOf operation) ⌝ }
 {
     match operation {
-        Operation::Enter { right: _, subject, object } => either(b == subject, b == object),
-        Operation::Delete { right: _, subject, object } => either(b == subject, b == object),
+        Operation::Enter {
+            right: _,
+            subject,
+            object,
+        } => either(b == subject, b == object),
+        Operation::Delete {
+            right: _,
+            subject,
+            object,
+        } => either(b == subject, b == object),
         Operation::CreateSubject(s) => b == s,
         Operation::CreateObject(o) => b == o,
         Operation::DestroySubject(s) => b == s,
@@ -256,7 +264,10 @@ impl Command {
     {
         let n = self.conditions as usize;
         for j in 0..n {
-            if either(b == self.condition[3 * j + 1], b == self.condition[3 * j + 2]) {
+            if either(
+                b == self.condition[3 * j + 1],
+                b == self.condition[3 * j + 2],
+            ) {
                 return true;
             }
         }

@@ -60,8 +60,8 @@ absent-kind subject f = absurd (f tt)
 
 -- ---- what a cell that has a row and a column holds, and one that has not
 module _ (ks cs : List ℕ) (s o q : ℕ) where
-  within : T (rightsIn ks cs s o q) → T (inside ks s o)
-  within = go (inside ks s o)
+  pub within-inside : T (rightsIn ks cs s o q) → T (inside ks s o)
+  within-inside = go (inside ks s o)
     where
       go : (b : Bool) → T (elim b [ true ↦ has (getD cs (names * s + o) 0) q | false ↦ false ]) → T b
       go true t = tt
@@ -74,7 +74,7 @@ module _ (ks cs : List ℕ) (s o q : ℕ) where
       go true t = t
       go false t = absurd t
 
-  in-bit : T (inside ks s o) → rightsIn ks cs s o q ≡ has (getD cs (names * s + o) 0) q
+  pub in-bit : T (inside ks s o) → rightsIn ks cs s o q ≡ has (getD cs (names * s + o) 0) q
   in-bit = go (inside ks s o)
     where
       go : (b : Bool) → T b → elim b [ true ↦ has (getD cs (names * s + o) 0) q | false ↦ false ] ≡ has (getD cs (names * s + o) 0) q
@@ -94,8 +94,8 @@ module _ (g : ℕ) (ks cs : List ℕ) (K : Canonical g ks cs) where
   pub view-proper : Proper g (view ks cs)
   view-proper = record {
     named = named-below ks (K .kinds-length);
-    row = λ s o q t. and-left (isSubject (kindOf (getD ks s 0))) (isObject (kindOf (getD ks o 0))) (within ks cs s o q t);
-    column = λ s o q t. and-right (isSubject (kindOf (getD ks s 0))) (isObject (kindOf (getD ks o 0))) (within ks cs s o q t);
+    row = λ s o q t. and-left (isSubject (kindOf (getD ks s 0))) (isObject (kindOf (getD ks o 0))) (within-inside ks cs s o q t);
+    column = λ s o q t. and-right (isSubject (kindOf (getD ks s 0))) (isObject (kindOf (getD ks o 0))) (within-inside ks cs s o q t);
     right = λ s o q t. has-below g q (getD cs (names * s + o) 0) (K .cells-fit (names * s + o)) (bit-in ks cs s o q t);
   }
 
@@ -171,7 +171,7 @@ module _ (g : ℕ) (m : State) (K : Proper g m) where
 
         there : T (rightsIn (kindsOf m) (cellsOf m) s o q) → T (m .cell s o q)
         there t =
-            let z : T (subjectIn m s && objectIn m o) = subst T (inside-is s o) (within (kindsOf m) (cellsOf m) s o q t) in
+            let z : T (subjectIn m s && objectIn m o) = subst T (inside-is s o) (within-inside (kindsOf m) (cellsOf m) s o q t) in
             let hs : T (subjectIn m s) = search both in
             let ho : T (objectIn m o) = search both in
             let ls : s < names = K .named s (subject-is-object (m .kind s) hs) in

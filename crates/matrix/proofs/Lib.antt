@@ -1,3 +1,4 @@
 pub mod Inverse
 pub mod KindBytes
 pub mod Tests
+pub mod Operations

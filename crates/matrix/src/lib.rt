@@ -3,7 +3,7 @@ ghost use mathlib.Core.Path.{_≡_};
 ghost use Prim.Native.Nat.{_<_};
 ghost use Rattle.protection.specs.State.{isObject, isSubject};
 ghost use Rattle.matrix.specs.Bytes.{kindOf, inside};
-ghost use Rattle.matrix.specs.Matrices.{emptyMatrix};
+ghost use Rattle.matrix.specs.Matrices.{emptyMatrix, entered, deleted, renewed};
 
 pub mod cells;
 
@@ -31,6 +31,41 @@ impl Matrix {
             kinds: [0u8; Matrix::NAMES],
             cells: [0u8; Matrix::NAMES * Matrix::NAMES],
         }
+    }
+
+    // Right q is put into the cell (s, o).
+    pub fn with_right(mut self, q: u8, s: usize, o: usize) -> Self
+        requires { ⌜ (q < 8) × (s < 32) × (o < 32) ⌝ }
+        ensures { λ r. ⌜ r ≡ entered self q s o ⌝ }
+    {
+        let at = Matrix::NAMES * s + o;
+        self.cells[at] = rights::with_right(self.cells[at], q);
+        self
+    }
+
+    // Right q is taken out of the cell (s, o).
+    pub fn without_right(mut self, q: u8, s: usize, o: usize) -> Self
+        requires { ⌜ (q < 8) × (s < 32) × (o < 32) ⌝ }
+        ensures { λ r. ⌜ r ≡ deleted self q s o ⌝ }
+    {
+        let at = Matrix::NAMES * s + o;
+        self.cells[at] = rights::without_right(self.cells[at], q);
+        self
+    }
+
+    // Name n gets a kind, and an empty row and column.
+    pub fn renewed(self, n: usize, kind: u8) -> Self
+        requires { ⌜ n < 32 ⌝ }
+        ensures { λ r. ⌜ r ≡ renewed self n kind ⌝ }
+    {
+        let mut kinds = self.kinds;
+        let mut cells = self.cells;
+        for j in 0..Matrix::NAMES {
+            cells[Matrix::NAMES * n + j] = 0;
+            cells[Matrix::NAMES * j + n] = 0;
+        }
+        kinds[n] = kind;
+        Matrix { kinds, cells }
     }
 }
 

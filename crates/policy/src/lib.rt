@@ -6,7 +6,6 @@ ghost use Rattle.layout.specs.File.{rightsOf, commandIn};
 ghost use Rattle.policy.specs.Contents.{matrixOf, commandsRead, noPolicy, refusedRead, policyRead};
 ghost use Rattle.commands.specs.Contents.{commandRead};
 ghost use Rattle.policy.specs.Layout.{MatrixInside, CommandInside, CommandsInside};
-
 use commands::Command;
 use commands::CommandRead;
 use matrix::Matrix;

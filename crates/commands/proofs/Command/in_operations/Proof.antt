@@ -9,10 +9,6 @@ use borrow.Author.Needs.{needs}
 use native.Mathlib.Omega.{arith}
 use Rattle.commands.proofs.Command.in_operations.Statement.{statement}
 use Rattle.commands.proofs.Command.in_operations.Tie as tie
-use Rattle.commands.proofs.Command.in_operations.Reads as reads
-use Rattle.commands.proofs.Command.in_operations.Lts as lts
-use Rattle.commands.proofs.Command.operation_at.Reads as operation-at-reads
-use Rattle.commands.proofs.operation_names.Reads as operation-names-reads
 
 abbrev Inv-loop : tie.InvT-loop
 Inv-loop self b n j₀ j = (j ≤ n) × (n ≡ self .operations) × (inOperations b (listed (operationOf self) (n - j) j) ≡ inOperations b (listed (operationOf self) (self .operations) 0))

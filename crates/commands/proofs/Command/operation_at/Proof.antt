@@ -2,8 +2,6 @@ use Rattle.cases.proofs.Picks.{arms}
 use borrow.Author.Needs.{needs}
 use Rattle.commands.proofs.Command.operation_at.Statement.{statement}
 use Rattle.commands.proofs.Command.operation_at.Tie as tie
-use Rattle.commands.proofs.Command.operation_at.Reads as reads
-use Rattle.commands.proofs.Command.operation_at.Lts as lts
 
 mul-kind : tie.Need-mul-kind
 mul-kind c = search needs
