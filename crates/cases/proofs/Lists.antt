@@ -1,12 +1,14 @@
 -- Lists made of a function's values. Assumes nothing.
 use Prim.Native.Nat.{ℕ, zero, suc, _≤_, _<_, _+_, _-_}
 use mathlib.Core.Path.{_≡_, refl, sym, ap, ap₂, _∙_}
-use mathlib.Core.Bool.{Bool, true, false, _||_}
+use mathlib.Core.Bool.{Bool, true, false, not, _&&_, _||_}
 use mathlib.Core.List.{List, [], _∷_}
 use native.Mathlib.Nat.{not-suc-le-zero, le-of-suc-le-suc}
 use native.Mathlib.Numerals.{add-one}
 use native.Mathlib.Omega.{arith}
-use lib.ListN.{length, getD}
+use borrow.Author.Tests.{not-true, not-false}
+use mathlib.Core.Option.{Option, none, some}
+use lib.ListN.{length, getD, getElem?}
 use Rattle.cases.specs.Cases.{listed}
 
 pub length-listed : {A : Type 0} (f : ℕ → A) (n j : ℕ) → length (listed f n j) ≡ n
@@ -35,3 +37,33 @@ module _ {A : Type 0} (P : List A → Bool) (p : A → Bool) (split : (x : A) (x
 
   pub any-next : (r : Bool) → r ≡ p (f j) → r ≡ false → j < n → P (listed f (n - j) j) ≡ all → P (listed f (n - (j + 1)) (j + 1)) ≡ all
   any-next r d t h e = let z : p (f j) ≡ false = sym d ∙ t in sym (unrolled h ∙ rw z) ∙ e
+
+-- a test that holds of a list if p holds of each of its elements
+module _ {A : Type 0} (P : List A → Bool) (p : A → Bool) (split : (x : A) (xs : List A) → P (x ∷ xs) ≡ p x && P xs) (f : ℕ → A) (n j : ℕ) (all : Bool) where
+  unrolled-all : j < n → P (listed f (n - j) j) ≡ p (f j) && P (listed f (n - (j + 1)) (j + 1))
+  unrolled-all h =
+      let z : n - j ≡ suc (n - (j + 1)) = omega arith in
+      ap (λ (k : ℕ). P (listed f k j)) z ∙ split (f j) (listed f (n - (j + 1)) (suc j)) ∙ rw (add-one j)
+
+  -- the test is a callee's answer r, and the code branches on `!r`
+  pub all-stop : (r : Bool) → r ≡ p (f j) → not r ≡ true → j < n → P (listed f (n - j) j) ≡ all → false ≡ all
+  all-stop r d t h e = let z : p (f j) ≡ false = sym d ∙ not-true r t in sym (unrolled-all h ∙ rw z) ∙ e
+
+  pub all-next : (r : Bool) → r ≡ p (f j) → not r ≡ false → j < n → P (listed f (n - j) j) ≡ all → P (listed f (n - (j + 1)) (j + 1)) ≡ all
+  all-next r d t h e = let z : p (f j) ≡ true = sym d ∙ not-false r t in sym (unrolled-all h ∙ rw z) ∙ e
+
+pub found-listed : {A : Type 0} (f : ℕ → A) (n j i : ℕ) → i < n → getElem? (listed f n j) i ≡ some (f (j + i))
+found-listed f zero j i h = absurd (not-suc-le-zero h)
+found-listed f (suc n) j zero h = ap (λ (k : ℕ). some (f k)) (omega arith)
+found-listed f (suc n) j (suc i) h = found-listed f n (suc j) i (le-of-suc-le-suc h) ∙ ap (λ (k : ℕ). some (f k)) (omega arith)
+
+pub none-listed : {A : Type 0} (f : ℕ → A) (n j i : ℕ) → n ≤ i → getElem? (listed f n j) i ≡ none
+none-listed f zero j i h = refl
+none-listed f (suc n) j zero h = absurd (not-suc-le-zero h)
+none-listed f (suc n) j (suc i) h = none-listed f n (suc j) i (le-of-suc-le-suc h)
+
+-- inside a list the default does not matter
+pub getD-inside : {A : Type 0} (l : List A) (i : ℕ) (a b : A) → i < length l → getD l i a ≡ getD l i b
+getD-inside [] i a b h = absurd (not-suc-le-zero h)
+getD-inside (x ∷ l) zero a b h = refl
+getD-inside (x ∷ l) (suc i) a b h = getD-inside l i a b (le-of-suc-le-suc h)

@@ -9,7 +9,7 @@ use lib.ListN.{getD}
 use Rattle.cases.specs.Cases.{listed}
 use Rattle.cases.proofs.Lists.{any-found, any-next}
 use Rattle.protection.specs.Command.{Condition, Operation, inConditions, inOperation, inOperations}
-use Rattle.commands.specs.Contents.{conditionOf, operationOf, modelOf}
+use Rattle.commands.specs.Contents.{conditionOf, operationAt, operationOf, modelOf}
 use Rattle.commands.specs.declared.Command.{Command}
 use Rattle.commands.specs.declared.Operation.{Operation as CodeOperation}
 
@@ -25,13 +25,13 @@ module _ (c : Command) (b n j : ℕ) (all r : Bool) where
       → inConditions b (listed (conditionOf c) (n - j) j) ≡ all → inConditions b (listed (conditionOf c) (n - (j + 1)) (j + 1)) ≡ all
   condition-next d t h e = any-next (inConditions b) here (λ x xs. refl) (conditionOf c) n j all r d t h e
 
-  pub operation-found : (op : CodeOperation) → modelOf op ≡ operationOf c j → r ≡ inOperation b (modelOf op) → r ≡ true → j < n
+  pub operation-found : (op : CodeOperation) → op ≡ operationAt c j → r ≡ inOperation b (modelOf op) → r ≡ true → j < n
       → inOperations b (listed (operationOf c) (n - j) j) ≡ all → true ≡ all
-  operation-found op o d t h e = any-found (inOperations b) (inOperation b) (λ x xs. refl) (operationOf c) n j all r (d ∙ ap (inOperation b) o) t h e
+  operation-found op o d t h e = any-found (inOperations b) (inOperation b) (λ x xs. refl) (operationOf c) n j all r (d ∙ ap (λ (x : CodeOperation). inOperation b (modelOf x)) o) t h e
 
-  pub operation-next : (op : CodeOperation) → modelOf op ≡ operationOf c j → r ≡ inOperation b (modelOf op) → r ≡ false → j < n
+  pub operation-next : (op : CodeOperation) → op ≡ operationAt c j → r ≡ inOperation b (modelOf op) → r ≡ false → j < n
       → inOperations b (listed (operationOf c) (n - j) j) ≡ all → inOperations b (listed (operationOf c) (n - (j + 1)) (j + 1)) ≡ all
-  operation-next op o d t h e = any-next (inOperations b) (inOperation b) (λ x xs. refl) (operationOf c) n j all r (d ∙ ap (inOperation b) o) t h e
+  operation-next op o d t h e = any-next (inOperations b) (inOperation b) (λ x xs. refl) (operationOf c) n j all r (d ∙ ap (λ (x : CodeOperation). inOperation b (modelOf x)) o) t h e
 
 pub conditions-end : (c : Command) (b n j : ℕ) (all : Bool) → n ≤ j → inConditions b (listed (conditionOf c) (n - j) j) ≡ all → false ≡ all
 conditions-end c b n j all h e = let z : n - j ≡ 0 = omega arith in rw z at e
@@ -40,5 +40,5 @@ pub operations-end : (c : Command) (b n j : ℕ) (all : Bool) → n ≤ j → in
 operations-end c b n j all h e = let z : n - j ≡ 0 = omega arith in rw z at e
 
 -- one of two answers
-pub either-is : (r x y a b : Bool) → r ≡ x || y → x ≡ a → y ≡ b → r ≡ a || b
-either-is r x y a b d e f = d ∙ rw (e, f)
+pub either-is : (x y a b : Bool) → x ≡ a → y ≡ b → x || y ≡ a || b
+either-is x y a b e f = rw (e, f)

@@ -1,6 +1,6 @@
 -- What a rule's section says: the command as the reader hands it out, and the machine's command that it stands for.
 use Prim.Native.Nat.{ℕ, _+_, _*_, _-_}
-use mathlib.Core.List.{List, _++_}
+use mathlib.Core.List.{List, [], _++_}
 use lib.ListN.{length, getD, take, drop, replicate}
 use lib.Dec.{eqb}
 use Rattle.cases.specs.Cases.{pick, listed}
@@ -19,6 +19,10 @@ filled n l = l ++ replicate (n - length l) 0
 
 abbrev pub noCommand : Command
 noCommand = record { parameters = 0; conditions = 0; operations = 0; condition = replicate (3 * conditions) 0; operation = replicate (4 * operations) 0 }
+
+-- what stands past the end of a list of commands
+abbrev pub missing : Command
+missing = record { parameters = 0; conditions = 0; operations = 0; condition = []; operation = [] }
 
 -- the command in its section p: "Then c conditions of 3 bytes .., then m steps of 4 bytes"
 unfoldable pub commandOf : List ℕ → Command
@@ -40,21 +44,18 @@ abbrev pub conditionOf : Command → ℕ → Condition
 conditionOf c j = record { right = getD (c .condition) (3 * j) 0; subject = getD (c .condition) (3 * j + 1) 0; object = getD (c .condition) (3 * j + 2) 0 }
 
 -- "Kinds: 1 enter, 2 delete, 3 create subject, 4 create object, 5 destroy subject, 6 destroy object."
-abbrev pub operationBy : ℕ → ℕ → ℕ → ℕ → Operation
+abbrev pub operationBy : ℕ → ℕ → ℕ → ℕ → CodeOperation
 operationBy kind q s o =
-    pick (eqb kind 1) (enter q s o)
-    (pick (eqb kind 2) (delete q s o)
-    (pick (eqb kind 3) (createSubject s)
-    (pick (eqb kind 4) (createObject s)
-    (pick (eqb kind 5) (destroySubject s)
-    (destroyObject s)))))
+    pick (eqb kind 1) (Enter q s o)
+    (pick (eqb kind 2) (Delete q s o)
+    (pick (eqb kind 3) (CreateSubject s)
+    (pick (eqb kind 4) (CreateObject s)
+    (pick (eqb kind 5) (DestroySubject s)
+    (DestroyObject s)))))
 
 -- "each 4 bytes (kind, right, first blank, second blank)"
-abbrev pub operationOf : Command → ℕ → Operation
-operationOf c j = operationBy (getD (c .operation) (4 * j) 0) (getD (c .operation) (4 * j + 1) 0) (getD (c .operation) (4 * j + 2) 0) (getD (c .operation) (4 * j + 3) 0)
-
-abbrev pub meaning : Command → ModelCommand
-meaning c = record { parameters = c .parameters; conditions = listed (conditionOf c) (c .conditions) 0; operations = listed (operationOf c) (c .operations) 0 }
+abbrev pub operationAt : Command → ℕ → CodeOperation
+operationAt c j = operationBy (getD (c .operation) (4 * j) 0) (getD (c .operation) (4 * j + 1) 0) (getD (c .operation) (4 * j + 2) 0) (getD (c .operation) (4 * j + 3) 0)
 
 -- the enum `Operation`, case by case
 abbrev pub modelOf : CodeOperation → Operation
@@ -64,3 +65,9 @@ modelOf (CreateSubject s) = createSubject s
 modelOf (CreateObject o) = createObject o
 modelOf (DestroySubject s) = destroySubject s
 modelOf (DestroyObject o) = destroyObject o
+
+abbrev pub operationOf : Command → ℕ → Operation
+operationOf c j = modelOf (operationAt c j)
+
+abbrev pub meaning : Command → ModelCommand
+meaning c = record { parameters = c .parameters; conditions = listed (conditionOf c) (c .conditions) 0; operations = listed (operationOf c) (c .operations) 0 }

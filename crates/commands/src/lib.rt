@@ -7,7 +7,7 @@ ghost use mathlib.Core.Bool.{_||_};
 ghost use Rattle.protection.specs.Command.{inConditions, inOperation, inOperations, named};
 ghost use Rattle.layout.specs.File.{byte};
 ghost use Rattle.commands.specs.Refusals.{conditionFits, conditionFitsAt, operationFits, operationFitsAt, commandRefusal};
-ghost use Rattle.commands.specs.Contents.{filled, noCommand, commandOf, commandRead, conditionOf, operationOf, modelOf, meaning};
+ghost use Rattle.commands.specs.Contents.{filled, noCommand, commandOf, commandRead, conditionOf, operationAt, operationOf, modelOf, meaning};
 
 // How many parameters, conditions and operations there are, and their bytes as in the file: 3 for a condition, 4 for an operation.
 pub struct Command {
@@ -201,7 +201,7 @@ impl Command {
     // Operation number j.
     pub fn operation_at(self, j: usize) -> Operation
         requires { ⌜ j < 6 ⌝ }
-        ensures { λ r. ⌜ modelOf r ≡ operationOf self j ⌝ }
+        ensures { λ r. ⌜ r ≡ operationAt self j ⌝ }
     {
         let kind = self.operation[4 * j];
         let right = self.operation[4 * j + 1];
@@ -235,26 +235,17 @@ fn operation_names(operation: Operation, b: u8) -> bool
             right: _,
             subject,
             object,
-        } => either(b == subject, b == object),
+        } => (b == subject) | (b == object),
         Operation::Delete {
             right: _,
             subject,
             object,
-        } => either(b == subject, b == object),
+        } => (b == subject) | (b == object),
         Operation::CreateSubject(s) => b == s,
         Operation::CreateObject(o) => b == o,
         Operation::DestroySubject(s) => b == s,
         Operation::DestroyObject(o) => b == o,
     }
-}
-
-fn either(x: bool, y: bool) -> bool
-    ensures { λ r. ⌜ r ≡ x || y ⌝ }
-{
-    if x {
-        return true;
-    }
-    y
 }
 
 impl Command {
@@ -264,10 +255,7 @@ impl Command {
     {
         let n = self.conditions as usize;
         for j in 0..n {
-            if either(
-                b == self.condition[3 * j + 1],
-                b == self.condition[3 * j + 2],
-            ) {
+            if (b == self.condition[3 * j + 1]) | (b == self.condition[3 * j + 2]) {
                 return true;
             }
         }
@@ -292,6 +280,6 @@ impl Command {
         requires { ⌜ (self .conditions ≤ 4) × (self .operations ≤ 6) ⌝ }
         ensures { λ r. ⌜ r ≡ named (meaning self) b ⌝ }
     {
-        either(self.in_conditions(b), self.in_operations(b))
+        self.in_conditions(b) | self.in_operations(b)
     }
 }

@@ -20,21 +20,7 @@ use Rattle.protection.specs.Limits.{names, rights}
 use Rattle.protection.specs.State.{Kind, absent, object, subject, isObject, isSubject, State, objectIn, subjectIn}
 use Rattle.protection.specs.Paper.{subject-is-object}
 use Rattle.matrix.specs.Bytes.{kindOf, kindByte, inside, rightsIn, view, kindsOf, cellByte, cellsOf}
-
--- kinds and cells as a file with g rights may hold them
-pub record Canonical (g : ℕ) (ks cs : List ℕ) : Type 0 where
-  pub kinds-length : length ks ≡ names
-  pub cells-length : length cs ≡ names * names
-  pub kinds-fit : (x : ℕ) → getD ks x 0 ≤ 2
-  pub cells-fit : (c : ℕ) → getD cs c 0 < 2 ^ g
-  pub outside : (s o : ℕ) → s < names → o < names → T (not (inside ks s o)) → getD cs (names * s + o) 0 ≡ 0
-
--- a state that fits into a file with g rights
-pub record Proper (g : ℕ) (m : State) : Type 0 where
-  pub named : (x : ℕ) → T (objectIn m x) → x < names
-  pub row : (s o q : ℕ) → T (m .cell s o q) → T (subjectIn m s)
-  pub column : (s o q : ℕ) → T (m .cell s o q) → T (objectIn m o)
-  pub right : (s o q : ℕ) → T (m .cell s o q) → q < g
+use Rattle.matrix.specs.Canonical.{Canonical, Proper}
 
 -- ---- kinds
 byte-kind : (k : ℕ) → k ≤ 2 → kindByte (kindOf k) ≡ k

@@ -23,7 +23,8 @@ use Rattle.protection.specs.Execution.{sameCell, put, takeOut, renew}
 use Rattle.matrix.specs.Bytes.{kindOf, inside, rightsIn, view}
 use Rattle.matrix.specs.Matrices.{stateOf, place, entered, deleted, emptied, renewed}
 use Rattle.matrix.specs.declared.Matrix.{Matrix}
-use Rattle.matrix.proofs.Inverse.{Canonical, named-below, within-inside, in-bit}
+use Rattle.matrix.specs.Canonical.{Canonical}
+use Rattle.matrix.proofs.Inverse.{named-below, within-inside, in-bit}
 
 -- ---- for the loop of `renewed`
 pub renewed-is : (m : Matrix) (n k j : ℕ) (cs : List ℕ) → 32 ≤ j → turns (emptied n) (32 - j) j cs ≡ turns (emptied n) 32 0 (m .cells)

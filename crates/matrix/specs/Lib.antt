@@ -1,3 +1,4 @@
 pub mod Bytes
+pub mod Canonical
 pub mod Matrices
 pub mod Refusals

@@ -5,22 +5,28 @@ use mathlib.Core.Bool.{Bool, true, false, not}
 use mathlib.Core.List.{List, _++_, append-assoc}
 use native.Mathlib.Decide.{decLt}
 use native.Mathlib.Omega.{arith}
-use borrow.Author.Tests.{leb-true, ltb-true, eqb-true}
+use borrow.Author.Tests.{leb-true, ltb-true, eqb-true, lt-ltb}
 use lib.Dec.{T, leb, eqb, ltb, T-not}
 use lib.ListN.{length, getD, take, drop, length-drop, take-append-drop, List·getD-eq-default}
 use lib.Pow.{pow-pos}
 use lib.Seq.{length-take-le, drop-drop}
 use Rattle.cases.specs.Cases.{pick, each}
+use Rattle.cases.proofs.Lists.{getD-listed}
 use Rattle.cases.proofs.Loops.{each-at}
 use Rattle.rights.specs.Rights.{within}
-use Rattle.protection.specs.Limits.{names, rights}
+use Rattle.protection.specs.Limits.{names, rights, commands}
 use Rattle.protection.specs.State.{State}
 use Rattle.matrix.specs.Bytes.{inside, view, kindsOf, cellsOf}
-use Rattle.matrix.proofs.Inverse.{Canonical, Proper, view-proper, kinds-back, cells-back}
-use Rattle.layout.specs.File.{byte, rightsOf, pairsOf, offsetOf, lengthOf, startOf, section, kindsIn, cellsIn}
+use Rattle.matrix.specs.Canonical.{Canonical, Proper}
+use Rattle.matrix.proofs.Inverse.{view-proper, kinds-back, cells-back}
+use Rattle.layout.specs.File.{byte, rightsOf, pairsOf, offsetOf, lengthOf, startOf, section, kindsIn, cellsIn, commandIn, commandsOf}
 use Rattle.matrix.specs.Refusals.{kindFits, cellFits}
 use Rattle.policy.specs.Refusals.{refusal}
-use Rattle.policy.specs.Contents.{over, written, fileState}
+use Rattle.policy.specs.Contents.{over, written, fileState, commandTable, policyOf}
+use Rattle.policy.specs.Fits.{PolicyFits}
+use Rattle.commands.specs.Contents.{noCommand, missing, commandOf}
+use Rattle.commands.specs.Fits.{Fits}
+use Rattle.commands.proofs.Fitting.{command-fits}
 use Rattle.layout.proofs.Accepted.{pairs-accepted, sizes-accepted, sections-placed}
 use Rattle.policy.proofs.Accepted.{Accepted, accepted, matrix-accepted}
 
@@ -113,3 +119,19 @@ module _ (f : List ℕ) (A : Accepted f) where
       ap₂ (λ (k c : List ℕ). over (over f (offsetOf f 0) k) (offsetOf f 1) c) file-kinds file-cells
       ∙ ap (λ (l : List ℕ). over l (offsetOf f 1) (cellsIn f)) (over-section f (offsetOf f 0) (lengthOf f 0) (pairs-accepted f (A .pairs) 0 (omega (arith, two))))
       ∙ over-section f (offsetOf f 1) (lengthOf f 1) (pairs-accepted f (A .pairs) 1 (omega (arith, two)))
+
+-- ---- and so is the policy that the reader hands out
+pub policy-fits : (f : List ℕ) → Accepted f → PolicyFits (policyOf f)
+unfolding policyOf commandTable
+policy-fits f A = record {
+  some-right = A .header .some-right;
+  few-rights = A .header .few-rights;
+  few-commands = omega (arith, A .header .few-pairs);
+  matrix-fits = file-canonical f A;
+  commands-fit = λ i l. subst (Fits (rightsOf f)) (sym (at i l)) (command-fits (rightsOf f) (commandIn f i) (A .commands i l) (A .header .some-right));
+}
+  where
+    at : (i : ℕ) → i < commandsOf f → getD (commandTable f (commandsOf f)) i missing ≡ commandOf (commandIn f i)
+    at i l =
+        getD-listed (λ j. pick (ltb j (commandsOf f)) (commandOf (commandIn f j)) noCommand) missing commands 0 i (omega (arith, A .header .few-pairs))
+        ∙ rw (lt-ltb (0 + i) (commandsOf f) (omega arith)) (ap (λ (j : ℕ). commandOf (commandIn f j)) (omega arith))

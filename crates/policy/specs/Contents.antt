@@ -11,7 +11,7 @@ use Rattle.matrix.specs.Bytes.{view, kindsOf, cellsOf}
 use Rattle.matrix.specs.Matrices.{emptyMatrix}
 use Rattle.matrix.specs.declared.Matrix.{Matrix}
 use Rattle.layout.specs.File.{rightsOf, offsetOf, kindsIn, cellsIn, commandIn, commandsOf}
-use Rattle.commands.specs.Contents.{noCommand, commandOf, meaning}
+use Rattle.commands.specs.Contents.{noCommand, missing, commandOf, meaning}
 use Rattle.commands.specs.declared.Command.{Command}
 use Rattle.policy.specs.Refusals.{commandsRefusal, refusal}
 use Rattle.policy.specs.declared.CommandsRead.{CommandsRead}
@@ -50,7 +50,7 @@ policyRead f = pick (eqb (refusal f) 0) (record { refused = 0; policy = policyOf
 
 -- ---- what they stand for
 abbrev pub systemOf : Policy → System
-systemOf p = record { rights = p .rights; commands = listed (λ i. meaning (getD (p .command) i noCommand)) (p .commands) 0 }
+systemOf p = record { rights = p .rights; commands = listed (λ i. meaning (getD (p .command) i missing)) (p .commands) 0 }
 
 -- the machine's state and its commands, of a file
 abbrev pub fileState : List ℕ → State

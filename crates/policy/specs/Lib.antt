@@ -1,3 +1,4 @@
 pub mod Refusals
 pub mod Layout
 pub mod Contents
+pub mod Fits

@@ -1,10 +1,10 @@
 // The whole file: its matrix and its commands, read or refused (document 01, refusals 1 to 9).
 ghost use mathlib.Core.Path.{_≡_};
 ghost use Prim.Native.Nat.{_+_, _*_, _≤_, _<_};
-ghost use lib.ListN.{length};
+ghost use lib.ListN.{length, getD};
 ghost use Rattle.layout.specs.File.{rightsOf, commandIn};
 ghost use Rattle.policy.specs.Contents.{matrixOf, commandsRead, noPolicy, refusedRead, policyRead};
-ghost use Rattle.commands.specs.Contents.{commandRead};
+ghost use Rattle.commands.specs.Contents.{missing, commandRead};
 ghost use Rattle.policy.specs.Layout.{MatrixInside, CommandInside, CommandsInside};
 use commands::Command;
 use commands::CommandRead;
@@ -42,6 +42,14 @@ impl Policy {
             command: [Command::none(); Policy::COMMANDS],
         }
     }
+
+    // Command number i.
+    pub fn command_at(self, i: usize) -> Command
+        requires { ⌜ i < 32 ⌝ }
+        ensures { λ r. ⌜ r ≡ getD (self .command) i missing ⌝ }
+    {
+        self.command[i]
+    }
 }
 
 // A copy of the kinds and the cells.
@@ -61,7 +69,7 @@ fn matrix_of(file: &[u8]) -> Matrix
 }
 
 // Command number i, read from its own part of the file and no more.
-fn command_at(file: &[u8], g: u8, i: usize) -> CommandRead
+fn read_at(file: &[u8], g: u8, i: usize) -> CommandRead
     requires { ⌜ CommandInside (now file) i ⌝ }
     ensures { λ r. ⌜ r ≡ commandRead g (commandIn (now (file .entry)) i) ⌝ }
 {
@@ -78,7 +86,7 @@ fn read_commands(file: &[u8], g: u8, count: usize) -> CommandsRead
 {
     let mut all = [Command::none(); Policy::COMMANDS];
     for i in 0..count {
-        let read = command_at(file, g, i);
+        let read = read_at(file, g, i);
         let refused = read.refused;
         if refused != 0 {
             return CommandsRead {

@@ -315,15 +315,15 @@ yields-done-all (c ∷ cs) m a C h E y =
     (and-intro (canDo m a c) (canDoAll (effect m a c) a cs) (one .0) (rest .0), rest .1)
 
 -- ---- conditions
-hold-satisfied : (S : System) (m : State) (a : Actuals) (cs : List Condition) → T (holdAll S m a cs) → SatisfiedAll cs a (configuration m)
-hold-satisfied S m a [] t = tt
-hold-satisfied S m a (c ∷ cs) t =
-    (record { row = search both; column = search both; right = search both }, hold-satisfied S m a cs (search both))
+hold-satisfied : (m : State) (a : Actuals) (cs : List Condition) → T (holdAll m a cs) → SatisfiedAll cs a (configuration m)
+hold-satisfied m a [] t = tt
+hold-satisfied m a (c ∷ cs) t =
+    (record { row = search both; column = search both; right = search both }, hold-satisfied m a cs (search both))
 
-satisfied-hold : (S : System) (m : State) (a : Actuals) (cs : List Condition) → SatisfiedAll cs a (configuration m) → T (holdAll S m a cs)
-satisfied-hold S m a [] h = tt
-satisfied-hold S m a (c ∷ cs) h =
-    let row = h .0 .row in let column = h .0 .column in let right = h .0 .right in let rest = satisfied-hold S m a cs (h .1) in
+satisfied-hold : (m : State) (a : Actuals) (cs : List Condition) → SatisfiedAll cs a (configuration m) → T (holdAll m a cs)
+satisfied-hold m a [] h = tt
+satisfied-hold m a (c ∷ cs) h =
+    let row = h .0 .row in let column = h .0 .column in let right = h .0 .right in let rest = satisfied-hold m a cs (h .1) in
     search both
 
 -- ---- the theorem
@@ -366,26 +366,26 @@ module _ (nameable : ℕ → Bool) (S : System) (m : State) (x : Call) where
   abbrev a : Actuals
   a = actuals x
 
-  execution : (C : Command) → getElem? (S .commands) (x .command) ≡ some C → execute nameable S m x ≡ executeCommand nameable S m (some C) a
-  execution C e = ap (λ (w : Option Command). executeCommand nameable S m w a) e
+  execution : (C : Command) → getElem? (S .commands) (x .command) ≡ some C → execute nameable S m x ≡ executeCommand nameable m (some C) a
+  execution C e = ap (λ (w : Option Command). executeCommand nameable m w a) e
 
   done-executes : (m' : State) (new : ℕ → Bool) → execute nameable S m x ≡ done m' new
       → (C : Command) × Admitted nameable S m x C × Executes C a (configuration m) (configuration m')
   done-executes m' new = go (getElem? (S .commands) (x .command)) refl
     where
-      go : (w : Option Command) → getElem? (S .commands) (x .command) ≡ w → executeCommand nameable S m w a ≡ done m' new
+      go : (w : Option Command) → getElem? (S .commands) (x .command) ≡ w → executeCommand nameable m w a ≡ done m' new
           → (C : Command) × Admitted nameable S m x C × Executes C a (configuration m) (configuration m')
       go none e = λ d. absurd (not-both m' new 11 (sym d))
       go (some C) e =
           gates-elim (λ o. o ≡ done m' new → (C : Command) × Admitted nameable S m x C × Executes C a (configuration m) (configuration m'))
-          (each (actualFits nameable (C .parameters) a) parameters 0) (each (spareExists C m a) (C .parameters) 0) (holdAll S m a (C .conditions)) (canDoAll m a (C .operations))
+          (each (actualFits nameable (C .parameters) a) parameters 0) (each (spareExists C m a) (C .parameters) 0) (holdAll m a (C .conditions)) (canDoAll m a (C .operations))
           (done (effectAll m a (C .operations)) (entersAnyNew m a (C .operations)))
           (λ n d. absurd (not-both m' new n (sym d)))
           (λ fit spare hold can d.
           let z : effectAll m a (C .operations) ≡ m' = cc in (
             C,
             record { found = e; fit = fit; spare = spare },
-            record { conditions = hold-satisfied S m a (C .conditions) hold; operations = subst (λ (k : State). YieldsAll (C .operations) a (configuration m) (configuration k)) z (done-yields-all (C .operations) m a can) },
+            record { conditions = hold-satisfied m a (C .conditions) hold; operations = subst (λ (k : State). YieldsAll (C .operations) a (configuration m) (configuration k)) z (done-yields-all (C .operations) m a can) },
           ))
 
   executes-done : (C : Command) (E : Configuration) → Admitted nameable S m x C → Executes C a (configuration m) E
@@ -395,8 +395,8 @@ module _ (nameable : ℕ → Bool) (S : System) (m : State) (x : Call) where
         effectAll m a (C .operations),
         entersAnyNew m a (C .operations),
         execution C (A .found)
-            ∙ gates-open (each (actualFits nameable (C .parameters) a) parameters 0) (each (spareExists C m a) (C .parameters) 0) (holdAll S m a (C .conditions)) (canDoAll m a (C .operations))
-            (done (effectAll m a (C .operations)) (entersAnyNew m a (C .operations))) (A .fit) (A .spare) (satisfied-hold S m a (C .conditions) (y .conditions)) (d .0),
+            ∙ gates-open (each (actualFits nameable (C .parameters) a) parameters 0) (each (spareExists C m a) (C .parameters) 0) (holdAll m a (C .conditions)) (canDoAll m a (C .operations))
+            (done (effectAll m a (C .operations)) (entersAnyNew m a (C .operations))) (A .fit) (A .spare) (satisfied-hold m a (C .conditions) (y .conditions)) (d .0),
         d .1,
       )
 

@@ -19,16 +19,16 @@ unbounded x = true
 
 -- ---- conditions
 -- a set of rights meets a condition on right q: the right is in it
-abbrev pub meets : System → (ℕ → Bool) → ℕ → Bool
-meets S set q = set q
+abbrev pub meets : (ℕ → Bool) → ℕ → Bool
+meets set q = set q
 
 -- "the subject blank's name is a subject, the object blank's exists, the right is in the cell"
-abbrev pub holds : System → State → Actuals → Condition → Bool
-holds S m a c = (subjectIn m (a (c .subject)) && objectIn m (a (c .object))) && meets S (m .cell (a (c .subject)) (a (c .object))) (c .right)
+abbrev pub holds : State → Actuals → Condition → Bool
+holds m a c = (subjectIn m (a (c .subject)) && objectIn m (a (c .object))) && meets (m .cell (a (c .subject)) (a (c .object))) (c .right)
 
-abbrev pub holdAll : System → State → Actuals → List Condition → Bool
-holdAll S m a [] = true
-holdAll S m a (c ∷ cs) = holds S m a c && holdAll S m a cs
+abbrev pub holdAll : State → Actuals → List Condition → Bool
+holdAll m a [] = true
+holdAll m a (c ∷ cs) = holds m a c && holdAll m a cs
 
 -- "A blank that no condition and no step names must get an existing name."
 abbrev pub spareExists : Command → State → Actuals → ℕ → Bool
@@ -104,14 +104,14 @@ gate false n o = refused n
 
 -- 11 no such rule; 12 an actual above 31 in a used position or not 255 in an unused one; 13 an unnamed blank with an absent name;
 -- 14 a condition not held; 15 a step that cannot be done
-abbrev pub executeCommand : (ℕ → Bool) → System → State → Option Command → Actuals → Outcome
-executeCommand nameable S m none a = refused 11
-executeCommand nameable S m (some C) a =
+abbrev pub executeCommand : (ℕ → Bool) → State → Option Command → Actuals → Outcome
+executeCommand nameable m none a = refused 11
+executeCommand nameable m (some C) a =
     gate (each (actualFits nameable (C .parameters) a) parameters 0) 12
     (gate (each (spareExists C m a) (C .parameters) 0) 13
-    (gate (holdAll S m a (C .conditions)) 14
+    (gate (holdAll m a (C .conditions)) 14
     (gate (canDoAll m a (C .operations)) 15
     (done (effectAll m a (C .operations)) (entersAnyNew m a (C .operations))))))
 
 abbrev pub execute : (ℕ → Bool) → System → State → Call → Outcome
-execute nameable S m x = executeCommand nameable S m (getElem? (S .commands) (x .command)) (actuals x)
+execute nameable S m x = executeCommand nameable m (getElem? (S .commands) (x .command)) (actuals x)

@@ -1,18 +1,14 @@
 use borrow.Author.Needs.{needs}
 use Rattle.commands.proofs.operation_names.Statement.{statement}
 use Rattle.commands.proofs.operation_names.Tie as tie
+use Rattle.commands.proofs.operation_names.Reads as reads
+use Rattle.commands.proofs.operation_names.Lts as lts
 
 enum-known-operation : tie.Need-enum-known-operation
 enum-known-operation c = search needs
 
-either-requires : tie.Need-either-requires
-either-requires c κs = search needs
-
 enum-known-operation-2 : tie.Need-enum-known-operation-2
 enum-known-operation-2 c = search needs
-
-either-requires-2 : tie.Need-either-requires-2
-either-requires-2 c κs = search needs
 
 enum-known-operation-3 : tie.Need-enum-known-operation-3
 enum-known-operation-3 c = search needs
@@ -27,10 +23,10 @@ enum-known-operation-6 : tie.Need-enum-known-operation-6
 enum-known-operation-6 c = search needs
 
 returns : tie.Need-returns
-returns c = rw (c .before .before .operation .given .1) (c .either .ensures)
+returns c = rw (c .before .operation .given .1)
 
 returns-2 : tie.Need-returns-2
-returns-2 c = rw (c .before .before .operation2 .given .1) (c .either2 .ensures)
+returns-2 c = rw (c .before .operation2 .given .1)
 
 returns-3 : tie.Need-returns-3
 returns-3 c = rw (c .before .operation3 .given .1)
@@ -49,9 +45,7 @@ operation-names-spec =
     tie.close
     (tie.spec
     enum-known-operation
-    either-requires
     enum-known-operation-2
-    either-requires-2
     enum-known-operation-3
     enum-known-operation-4
     enum-known-operation-5

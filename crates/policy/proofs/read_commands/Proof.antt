@@ -21,8 +21,8 @@ none-requires c κs = search needs
 loop-holds : tie.Need-loop-holds Inv-loop μ-loop
 loop-holds c = (omega arith, search table-start, rw sub-zero)
 
-command-at-requires : tie.Need-command-at-requires Inv-loop μ-loop
-command-at-requires c κs = c .before .before .before .before .pre .1 .each (c .before .loop .i) (omega arith)
+read-at-requires : tie.Need-read-at-requires Inv-loop μ-loop
+read-at-requires c κs = c .before .before .before .before .pre .1 .each (c .before .loop .i) (omega arith)
 
 none-requires-2 : tie.Need-none-requires-2 Inv-loop μ-loop
 none-requires-2 c κs = search needs
@@ -56,7 +56,7 @@ read-commands-spec =
     μ-loop
     none-requires
     loop-holds
-    command-at-requires
+    read-at-requires
     none-requires-2
     returns
     mul-all

@@ -9,6 +9,8 @@ use borrow.Author.Needs.{needs}
 use native.Mathlib.Omega.{arith}
 use Rattle.commands.proofs.Command.in_conditions.Statement.{statement}
 use Rattle.commands.proofs.Command.in_conditions.Tie as tie
+use Rattle.commands.proofs.Command.in_conditions.Reads as reads
+use Rattle.commands.proofs.Command.in_conditions.Lts as lts
 
 abbrev Inv-loop : tie.InvT-loop
 Inv-loop b self n j₀ j = (j ≤ n) × (n ≡ self .conditions) × (inConditions b (listed (conditionOf self) (n - j) j) ≡ inConditions b (listed (conditionOf self) (self .conditions) 0))
@@ -22,26 +24,23 @@ cast-n c = search needs
 loop-holds : tie.Need-loop-holds Inv-loop μ-loop
 loop-holds c = (omega arith, refl, rw sub-zero)
 
-mul-either : tie.Need-mul-either Inv-loop μ-loop
-mul-either c = search needs
+mul-if1 : tie.Need-mul-if1 Inv-loop μ-loop
+mul-if1 c = search needs
 
-add-either : tie.Need-add-either Inv-loop μ-loop
-add-either c = search needs
+add-if1 : tie.Need-add-if1 Inv-loop μ-loop
+add-if1 c = search needs
 
-element-copy-out-either : tie.Need-element-copy-out-either Inv-loop μ-loop
-element-copy-out-either c = search needs
+element-copy-out-if1 : tie.Need-element-copy-out-if1 Inv-loop μ-loop
+element-copy-out-if1 c = search needs
 
-mul-either-2 : tie.Need-mul-either-2 Inv-loop μ-loop
-mul-either-2 c = search needs
+mul-if1-2 : tie.Need-mul-if1-2 Inv-loop μ-loop
+mul-if1-2 c = search needs
 
-add-either-2 : tie.Need-add-either-2 Inv-loop μ-loop
-add-either-2 c = search needs
+add-if1-2 : tie.Need-add-if1-2 Inv-loop μ-loop
+add-if1-2 c = search needs
 
-element-copy-out-either-2 : tie.Need-element-copy-out-either-2 Inv-loop μ-loop
-element-copy-out-either-2 c = search needs
-
-either-requires : tie.Need-either-requires Inv-loop μ-loop
-either-requires c κs = search needs
+element-copy-out-if1-2 : tie.Need-element-copy-out-if1-2 Inv-loop μ-loop
+element-copy-out-if1-2 c = search needs
 
 returns : tie.Need-returns Inv-loop μ-loop
 returns c = search condition-found
@@ -66,13 +65,12 @@ in-conditions-spec =
     μ-loop
     cast-n
     loop-holds
-    mul-either
-    add-either
-    element-copy-out-either
-    mul-either-2
-    add-either-2
-    element-copy-out-either-2
-    either-requires
+    mul-if1
+    add-if1
+    element-copy-out-if1
+    mul-if1-2
+    add-if1-2
+    element-copy-out-if1-2
     returns
     add-j
     loop-less

@@ -2,6 +2,10 @@ use Rattle.commands.proofs.Names.{either-is}
 use borrow.Author.Needs.{needs}
 use Rattle.commands.proofs.Command.names.Statement.{statement}
 use Rattle.commands.proofs.Command.names.Tie as tie
+use Rattle.commands.proofs.Command.names.Reads as reads
+use Rattle.commands.proofs.Command.names.Lts as lts
+use Rattle.commands.proofs.Command.in_conditions.Reads as in-conditions-reads
+use Rattle.commands.proofs.Command.in_operations.Reads as in-operations-reads
 
 in-conditions-requires : tie.Need-in-conditions-requires
 in-conditions-requires c κs = search needs
@@ -9,12 +13,8 @@ in-conditions-requires c κs = search needs
 in-operations-requires : tie.Need-in-operations-requires
 in-operations-requires c κs = search needs
 
-either-requires : tie.Need-either-requires
-either-requires c κs = search needs
-
 returns : tie.Need-returns
 returns c = search either-is
 
 pub names-spec : {M : Type 1} → statement M
-names-spec =
-    tie.close (tie.spec in-conditions-requires in-operations-requires either-requires returns)
+names-spec = tie.close (tie.spec in-conditions-requires in-operations-requires returns)

@@ -1,7 +1,7 @@
 use Rattle.policy.proofs.Policies.{part-is}
 use borrow.Author.Needs.{needs}
-use Rattle.policy.proofs.command_at.Statement.{statement}
-use Rattle.policy.proofs.command_at.Tie as tie
+use Rattle.policy.proofs.read_at.Statement.{statement}
+use Rattle.policy.proofs.read_at.Tie as tie
 
 add-p : tie.Need-add-p
 add-p c = search needs
@@ -39,8 +39,8 @@ read-command-requires c κs = search needs
 returns : tie.Need-returns
 returns c = search part-is
 
-pub command-at-spec : {M : Type 1} → statement M
-command-at-spec =
+pub read-at-spec : {M : Type 1} → statement M
+read-at-spec =
     tie.close
     (tie.spec
     add-p

@@ -1,0 +1,50 @@
+-- The tests before the first operation, in the words of the model. Assumes nothing.
+use Prim.Native.Nat.{ℕ, _+_, _*_, _-_, _≤_, _<_}
+use mathlib.Core.Path.{_≡_, refl, sym, ap, ap₂, _∙_}
+use mathlib.Core.Bool.{Bool, true, false, not, _&&_, _||_}
+use mathlib.Core.List.{List, []}
+use native.Mathlib.Omega.{arith}
+use lib.ListN.{getD}
+use Rattle.cases.specs.Cases.{listed}
+use Rattle.cases.proofs.Lists.{all-stop, all-next}
+use Rattle.rights.specs.Rights.{has}
+use Rattle.protection.specs.State.{isObject}
+use Rattle.protection.specs.Command.{Command as ModelCommand, named, valuesOf}
+use Rattle.protection.specs.Execution.{holds, holdAll, spareExists}
+use Rattle.matrix.specs.Bytes.{kindOf, inside, rightsIn, view}
+use Rattle.commands.specs.Contents.{conditionOf, meaning}
+use Rattle.commands.specs.declared.Command.{Command}
+
+-- ---- spare parameters
+pub spare-named : (ks a : List ℕ) (c : Command) (b : ℕ) (r : Bool) → r ≡ named (meaning c) b → r ≡ true → true ≡ spareExists (meaning c) (view ks []) (valuesOf a) b
+spare-named ks a c b r d t = let z : named (meaning c) b ≡ true = sym d ∙ t in rw z
+
+pub spare-asked : (ks a : List ℕ) (c : Command) (b x : ℕ) (r s : Bool) → r ≡ named (meaning c) b → r ≡ false → x ≡ getD a b 0 → s ≡ isObject (kindOf (getD ks x 0))
+    → s ≡ spareExists (meaning c) (view ks []) (valuesOf a) b
+spare-asked ks a c b x r s d t ex e = let z : named (meaning c) b ≡ false = sym d ∙ t in e ∙ rw (ex, z)
+
+-- ---- conditions: a right is only in a cell that has a row and a column
+gated : (ks cs : List ℕ) (s o q : ℕ) → inside ks s o && rightsIn ks cs s o q ≡ rightsIn ks cs s o q
+gated ks cs s o q = go (inside ks s o) (getD cs (32 * s + o) 0)
+  where
+    go : (b : Bool) (v : ℕ) → b && elim b [ true ↦ has v q | false ↦ false ] ≡ elim b [ true ↦ has v q | false ↦ false ]
+    go true v = refl
+    go false v = refl
+
+pub condition-is : (ks cs a : List ℕ) (c : Command) (j x y : ℕ) (r : Bool) → x ≡ getD a (getD (c .condition) (3 * j + 1) 0) 0 → y ≡ getD a (getD (c .condition) (3 * j + 2) 0) 0
+    → r ≡ rightsIn ks cs x y (getD (c .condition) (3 * j) 0) → r ≡ holds (view ks cs) (valuesOf a) (conditionOf c j)
+condition-is ks cs a c j x y r ex ey d =
+    d ∙ sym (gated ks cs x y (getD (c .condition) (3 * j) 0))
+    ∙ ap₂ (λ (s o : ℕ). inside ks s o && rightsIn ks cs s o (getD (c .condition) (3 * j) 0)) ex ey
+
+module _ (ks cs a : List ℕ) (c : Command) (n j : ℕ) (all r : Bool) where
+  pub condition-stop : r ≡ holds (view ks cs) (valuesOf a) (conditionOf c j) → not r ≡ true → j < n
+      → holdAll (view ks cs) (valuesOf a) (listed (conditionOf c) (n - j) j) ≡ all → false ≡ all
+  condition-stop = all-stop (holdAll (view ks cs) (valuesOf a)) (holds (view ks cs) (valuesOf a)) (λ x xs. refl) (conditionOf c) n j all r
+
+  pub condition-more : r ≡ holds (view ks cs) (valuesOf a) (conditionOf c j) → not r ≡ false → j < n
+      → holdAll (view ks cs) (valuesOf a) (listed (conditionOf c) (n - j) j) ≡ all → holdAll (view ks cs) (valuesOf a) (listed (conditionOf c) (n - (j + 1)) (j + 1)) ≡ all
+  condition-more = all-next (holdAll (view ks cs) (valuesOf a)) (holds (view ks cs) (valuesOf a)) (λ x xs. refl) (conditionOf c) n j all r
+
+pub conditions-end : (ks cs a : List ℕ) (c : Command) (n j : ℕ) (all : Bool) → n ≤ j → holdAll (view ks cs) (valuesOf a) (listed (conditionOf c) (n - j) j) ≡ all → true ≡ all
+conditions-end ks cs a c n j all h e = let z : n - j ≡ 0 = omega arith in rw z at e

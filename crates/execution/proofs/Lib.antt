@@ -1,0 +1,4 @@
+pub mod Applied
+pub mod Asked
+pub mod Running
+pub mod Calls

@@ -1,0 +1,211 @@
+-- The loop over a command's operations, and a whole call. Assumes nothing.
+use Prim.Native.Nat.{ℕ, zero, suc, _+_, _*_, _-_, _^_, _≤_, _<_}
+use mathlib.Core.Path.{_≡_, refl, sym, ap, ap₂, _∙_, subst}
+use mathlib.Core.Bool.{Bool, true, false, not, _&&_, _||_, or-false}
+use mathlib.Core.List.{List, [], _∷_}
+use mathlib.Core.Option.{Option, none, some}
+use native.Mathlib.Nat.{sub-zero}
+use native.Mathlib.Numerals.{add-one}
+use native.Mathlib.Omega.{arith}
+use borrow.Author.Tests.{not-true, not-false, ltb-true, lt-ltb}
+use lib.Dec.{T, eqb, ltb}
+use lib.ListN.{length, getD, getElem?}
+use Rattle.cases.specs.Cases.{pick, each, listed}
+use Rattle.cases.proofs.Bools.{holds as test-holds}
+use Rattle.cases.proofs.Loops.{each-at}
+use Rattle.protection.specs.Limits.{names, rights, parameters}
+use Rattle.protection.specs.State.{State}
+use Rattle.protection.specs.Command.{Operation as ModelOperation, Command as ModelCommand, valuesOf}
+use Rattle.protection.specs.Execution.{bounded, holdAll, spareExists, actualFits, canDo, effect, entersNew, canDoAll, effectAll, entersAnyNew, Outcome, refused, done, gate, executeCommand}
+use Rattle.protection.specs.Leak.{after}
+use Rattle.matrix.specs.Bytes.{view}
+use Rattle.matrix.specs.Canonical.{Canonical}
+use Rattle.matrix.specs.Matrices.{stateOf}
+use Rattle.matrix.specs.declared.Matrix.{Matrix}
+use Rattle.commands.specs.Contents.{operationBy, operationAt, operationOf, modelOf, conditionOf, meaning}
+use Rattle.commands.specs.Fits.{Fits}
+use Rattle.commands.specs.declared.Command.{Command}
+use Rattle.commands.specs.declared.Operation.{Operation}
+use Rattle.commands.specs.declared.Operation.the-variants.{Enter, Delete, CreateSubject, CreateObject, DestroySubject, DestroyObject}
+use Rattle.execution.specs.Operations.{Named, Applies, performed}
+use Rattle.execution.specs.Conditions.{ConditionApplies, ConditionsApply, SparesApply}
+use Rattle.execution.specs.Runs.{OperationsApply, RanAs, answerOf, refusedExecuted, ExecutedAs}
+use Rattle.execution.specs.declared.Answer.the-variants.{Refused, Done, Leaked}
+use Rattle.execution.specs.declared.Executed.{Executed}
+use Rattle.execution.specs.declared.Ran.{Ran}
+use Rattle.execution.proofs.Applied.{Grants, can-by-kinds, performed-state, performed-canonical}
+
+-- ---- the operation that four bytes say
+applies-by : (a : List ℕ) (k q s o : ℕ) → q < rights → Named a s → Named a o → Applies a (operationBy k q s o)
+applies-by a k q s o lq hs ho = go (eqb k 1) (eqb k 2) (eqb k 3) (eqb k 4) (eqb k 5)
+  where
+    go : (b₁ b₂ b₃ b₄ b₅ : Bool) → Applies a (pick b₁ (Enter q s o) (pick b₂ (Delete q s o) (pick b₃ (CreateSubject s) (pick b₄ (CreateObject s) (pick b₅ (DestroySubject s) (DestroyObject s))))))
+    go true b₂ b₃ b₄ b₅ = (lq, hs, ho)
+    go false true b₃ b₄ b₅ = (lq, hs, ho)
+    go false false true b₄ b₅ = hs
+    go false false false true b₅ = hs
+    go false false false false true = hs
+    go false false false false false = hs
+
+grants-by : (k q s o : ℕ) → q < rights → Grants rights (operationBy k q s o)
+grants-by k q s o lq = go (eqb k 1) (eqb k 2) (eqb k 3) (eqb k 4) (eqb k 5)
+  where
+    go : (b₁ b₂ b₃ b₄ b₅ : Bool) → Grants rights (pick b₁ (Enter q s o) (pick b₂ (Delete q s o) (pick b₃ (CreateSubject s) (pick b₄ (CreateObject s) (pick b₅ (DestroySubject s) (DestroyObject s))))))
+    go true b₂ b₃ b₄ b₅ = lq
+    go false true b₃ b₄ b₅ = lq
+    go false false true b₄ b₅ = tt
+    go false false false true b₅ = tt
+    go false false false false true = tt
+    go false false false false false = tt
+
+pub applies-at : (a : List ℕ) (c : Command) (j : ℕ) (op : Operation) → OperationsApply a c → j < c .operations → op ≡ operationAt c j → Applies a op
+applies-at a c j op h l e =
+    subst (Applies a) (sym e) (applies-by a (getD (c .operation) (4 * j) 0) (getD (c .operation) (4 * j + 1) 0) (getD (c .operation) (4 * j + 2) 0) (getD (c .operation) (4 * j + 3) 0) (h .right j l) (h .first j l) (h .second j l))
+
+-- ---- what is left of the operations, from where the loop stands, is the whole
+pub record Going (right : ℕ) (m : Matrix) (a : List ℕ) (c : Command) (j : ℕ) (x : Matrix) (leaked : Bool) : Type 0 where
+  pub able : canDoAll (stateOf x) (valuesOf a) (listed (operationOf c) (c .operations - j) j) ≡ canDoAll (stateOf m) (valuesOf a) (listed (operationOf c) (c .operations) 0)
+  pub leak : leaked || entersAnyNew (stateOf x) (valuesOf a) (listed (operationOf c) (c .operations - j) j) right ≡ entersAnyNew (stateOf m) (valuesOf a) (listed (operationOf c) (c .operations) 0) right
+  pub state : effectAll (stateOf x) (valuesOf a) (listed (operationOf c) (c .operations - j) j) ≡ effectAll (stateOf m) (valuesOf a) (listed (operationOf c) (c .operations) 0)
+  pub canonical : Canonical rights (x .kinds) (x .cells)
+
+pub going-start : (right : ℕ) (m : Matrix) (a : List ℕ) (c : Command) → Canonical rights (m .kinds) (m .cells) → Going right m a c 0 m false
+going-start right m a c K = record { able = rw sub-zero; leak = rw sub-zero; state = rw sub-zero; canonical = K }
+
+module _ (right : ℕ) (m : Matrix) (a : List ℕ) (c : Command) (j : ℕ) (x : Matrix) (leaked : Bool) (G : Going right m a c j x leaked)
+    (l : j < c .operations) (op : Operation) (e : op ≡ operationAt c j) (r : Bool) (d : r ≡ canDo (view (x .kinds) []) (valuesOf a) (modelOf op)) where
+  unrolled : listed (operationOf c) (c .operations - j) j ≡ operationOf c j ∷ listed (operationOf c) (c .operations - (j + 1)) (j + 1)
+  unrolled = let z : c .operations - j ≡ suc (c .operations - (j + 1)) = omega arith in rw (z, add-one j)
+
+  can-here : r ≡ canDo (stateOf x) (valuesOf a) (operationOf c j)
+  can-here = d ∙ can-by-kinds (x .kinds) [] (x .cells) (valuesOf a) op ∙ ap (λ (p : Operation). canDo (stateOf x) (valuesOf a) (modelOf p)) e
+
+  pub going-stop : Canonical rights (m .kinds) (m .cells) → not r ≡ true → RanAs right m a (listed (operationOf c) (c .operations) 0) (record { done = false; leaked = leaked; matrix = m })
+  going-stop K t =
+      let z : canDo (stateOf x) (valuesOf a) (operationOf c j) ≡ false = sym can-here ∙ not-true r t in
+      let w : canDoAll (stateOf x) (valuesOf a) (listed (operationOf c) (c .operations - j) j) ≡ false = ap (canDoAll (stateOf x) (valuesOf a)) unrolled ∙ rw z in
+      record { able = sym w ∙ G .able; leak = λ q. absurd (never q); state = λ q. absurd (never q); canonical = K }
+    where
+      never : _≡_ {A = Bool} false true → ⊥
+      never q = let z : _≡_ {A = ℕ} 0 1 = cc in omega arith
+
+  pub going-more : OperationsApply a c → not r ≡ false → (b : Bool) → b ≡ entersNew (view (x .kinds) (x .cells)) (valuesOf a) (modelOf op) right → (y : Matrix) → y ≡ performed x (valuesOf a) op
+      → Going right m a c (j + 1) y (leaked || b)
+  going-more h t b db y dy =
+      let z : canDo (stateOf x) (valuesOf a) (operationOf c j) ≡ true = sym can-here ∙ not-false r t in
+      let can : T (canDo (stateOf x) (valuesOf a) (modelOf op)) = test-holds (canDo (stateOf x) (valuesOf a) (modelOf op)) (ap (λ (p : Operation). canDo (stateOf x) (valuesOf a) (modelOf p)) e ∙ z) in
+      let ap-op = applies-at a c j op h l e in
+      let gr : Grants rights op = subst (Grants rights) (sym e) (grants-by (getD (c .operation) (4 * j) 0) (getD (c .operation) (4 * j + 1) 0) (getD (c .operation) (4 * j + 2) 0) (getD (c .operation) (4 * j + 3) 0) (h .right j l)) in
+      let st : stateOf y ≡ effect (stateOf x) (valuesOf a) (operationOf c j) =
+          ap stateOf dy ∙ performed-state rights x (G .canonical) a op ap-op gr can ∙ ap (λ (p : Operation). effect (stateOf x) (valuesOf a) (modelOf p)) e in
+      let nw : b ≡ entersNew (stateOf x) (valuesOf a) (operationOf c j) right = db ∙ ap (λ (p : Operation). entersNew (stateOf x) (valuesOf a) (modelOf p) right) e in
+      record {
+        able = ap (λ (s : State). canDoAll s (valuesOf a) rest) st ∙ sym (ap (canDoAll (stateOf x) (valuesOf a)) unrolled ∙ rw z) ∙ G .able;
+        leak =
+          ap₂ (λ (u : Bool) (s : State). (leaked || u) || entersAnyNew s (valuesOf a) rest right) nw st
+          ∙ or-assoc leaked (entersNew (stateOf x) (valuesOf a) (operationOf c j) right) (entersAnyNew (effect (stateOf x) (valuesOf a) (operationOf c j)) (valuesOf a) rest right)
+          ∙ ap (λ (ops : List ModelOperation). leaked || entersAnyNew (stateOf x) (valuesOf a) ops right) (sym unrolled) ∙ G .leak;
+        state = ap (λ (s : State). effectAll s (valuesOf a) rest) st ∙ ap (effectAll (stateOf x) (valuesOf a)) (sym unrolled) ∙ G .state;
+        canonical = subst (λ (w : Matrix). Canonical rights (w .kinds) (w .cells)) (sym dy) (performed-canonical rights x (G .canonical) a op ap-op gr can) }
+    where
+      rest : List ModelOperation
+      rest = listed (operationOf c) (c .operations - (j + 1)) (j + 1)
+
+      or-assoc : (u v w : Bool) → (u || v) || w ≡ u || (v || w)
+      or-assoc true v w = refl
+      or-assoc false v w = refl
+
+pub going-end : (right : ℕ) (m : Matrix) (a : List ℕ) (c : Command) (j : ℕ) (x : Matrix) (leaked : Bool) → Going right m a c j x leaked → c .operations ≤ j
+    → RanAs right m a (listed (operationOf c) (c .operations) 0) (record { done = true; leaked = leaked; matrix = x })
+going-end right m a c j x leaked G h =
+    let z : c .operations - j ≡ 0 = omega arith in
+    record {
+      able = rw z at (G .able);
+      leak = λ _. sym (or-false leaked) ∙ (rw z at (G .leak));
+      state = λ _. rw z at (G .state);
+      canonical = G .canonical }
+
+-- ---- what a call that passed the test of its actuals may rest on
+module _ (a : List ℕ) (c : Command) (F : Fits rights c) (r : Bool) (d : r ≡ each (actualFits bounded (c .parameters) (valuesOf a)) parameters 0) (t : not r ≡ false) where
+  named : (b : ℕ) → b < c .parameters → Named a b
+  named b l =
+      let few = F .few-parameters in
+      let e : actualFits bounded (c .parameters) (valuesOf a) b ≡ true = each-at (actualFits bounded (c .parameters) (valuesOf a)) parameters 0 (sym d ∙ not-false r t) b (omega arith) (omega arith) in
+      let z : ltb b (c .parameters) ≡ true = lt-ltb b (c .parameters) l in
+      record { parameter = omega arith; name = ltb-true (getD a b 0) names (rw z at e) }
+
+  pub spares-apply : SparesApply a c
+  spares-apply = record { few-parameters = F .few-parameters; few-conditions = F .few-conditions; few-operations = F .few-operations; named = named }
+
+  pub conditions-apply : ConditionsApply a c
+  conditions-apply = record {
+      few = F .few-conditions;
+      each = λ j l. record {
+        number = omega (arith, F .few-conditions); right = F .condition-right j l;
+        subject = named (getD (c .condition) (3 * j + 1) 0) (F .condition-subject j l); object = named (getD (c .condition) (3 * j + 2) 0) (F .condition-object j l) } }
+
+  pub operations-apply : OperationsApply a c
+  operations-apply = record {
+      few = F .few-operations; right = F .operation-right;
+      first = λ j l. named (getD (c .operation) (4 * j + 2) 0) (F .operation-first j l);
+      second = λ j l. named (getD (c .operation) (4 * j + 3) 0) (F .operation-second j l) }
+
+-- ---- what a call answers
+pub executed-refused : (right n : ℕ) (m : Matrix) (o : Outcome) (x : Executed) → Canonical rights (m .kinds) (m .cells) → o ≡ refused n → x ≡ refusedExecuted n m → ExecutedAs right o m x
+executed-refused right n m o x K e d =
+    subst (λ (y : Executed). ExecutedAs right o m y) (sym d)
+      (subst (λ (z : Outcome). ExecutedAs right z m (refusedExecuted n m)) (sym e) (record { answer = refl; state = refl; canonical = K }))
+
+module _ (right : ℕ) (m : Matrix) (c : Command) (a : List ℕ) (K : Canonical rights (m .kinds) (m .cells)) where
+  abbrev outcome : Outcome
+  outcome = executeCommand bounded (stateOf m) (some (meaning c)) (valuesOf a)
+
+  abbrev end : Outcome
+  end = done (effectAll (stateOf m) (valuesOf a) (listed (operationOf c) (c .operations) 0)) (entersAnyNew (stateOf m) (valuesOf a) (listed (operationOf c) (c .operations) 0))
+
+  module _ (r₁ : Bool) (d₁ : r₁ ≡ each (actualFits bounded (c .parameters) (valuesOf a)) parameters 0) where
+    pub refused-12 : (x : Executed) → not r₁ ≡ true → x ≡ refusedExecuted 12 m → ExecutedAs right outcome m x
+    refused-12 x t e = executed-refused right 12 m outcome x K (let z = sym d₁ ∙ not-true r₁ t in rw z) e
+
+    module _ (t₁ : not r₁ ≡ false) (r₂ : Bool) (d₂ : r₂ ≡ each (spareExists (meaning c) (view (m .kinds) []) (valuesOf a)) (c .parameters) 0) where
+      passed-12 : each (actualFits bounded (c .parameters) (valuesOf a)) parameters 0 ≡ true
+      passed-12 = sym d₁ ∙ not-false r₁ t₁
+
+      pub refused-13 : (x : Executed) → not r₂ ≡ true → x ≡ refusedExecuted 13 m → ExecutedAs right outcome m x
+      refused-13 x t e = executed-refused right 13 m outcome x K (let z = sym d₂ ∙ not-true r₂ t in rw (passed-12, z)) e
+
+      module _ (t₂ : not r₂ ≡ false) (r₃ : Bool) (d₃ : r₃ ≡ holdAll (view (m .kinds) (m .cells)) (valuesOf a) (listed (conditionOf c) (c .conditions) 0)) where
+        passed-13 : each (spareExists (meaning c) (view (m .kinds) []) (valuesOf a)) (c .parameters) 0 ≡ true
+        passed-13 = sym d₂ ∙ not-false r₂ t₂
+
+        pub refused-14 : (x : Executed) → not r₃ ≡ true → x ≡ refusedExecuted 14 m → ExecutedAs right outcome m x
+        refused-14 x t e = executed-refused right 14 m outcome x K (let z = sym d₃ ∙ not-true r₃ t in rw (passed-12, passed-13, z)) e
+
+        module _ (t₃ : not r₃ ≡ false) (w : Ran) (d₄ : RanAs right m a (listed (operationOf c) (c .operations) 0) w) where
+          passed-14 : holdAll (view (m .kinds) (m .cells)) (valuesOf a) (listed (conditionOf c) (c .conditions) 0) ≡ true
+          passed-14 = sym d₃ ∙ not-false r₃ t₃
+
+          pub refused-15 : (x : Executed) → not (w .done) ≡ true → x ≡ refusedExecuted 15 m → ExecutedAs right outcome m x
+          refused-15 x t e = executed-refused right 15 m outcome x K (let z = sym (d₄ .able) ∙ not-true (w .done) t in rw (passed-12, passed-13, passed-14, z)) e
+
+          module _ (t₄ : not (w .done) ≡ false) where
+            is-done : w .done ≡ true
+            is-done = not-false (w .done) t₄
+
+            ended : outcome ≡ end
+            ended = let z = sym (d₄ .able) ∙ is-done in rw (passed-12, passed-13, passed-14, z)
+
+            finished : (x : Executed) → x .matrix ≡ w .matrix → x .answer ≡ pick (w .leaked) Leaked Done → ExecutedAs right outcome m x
+            finished x em ea =
+                let u : x .answer ≡ answerOf right end = ea ∙ ap (λ (b : Bool). pick b Leaked Done) (d₄ .leak is-done) in
+                let s : stateOf (x .matrix) ≡ after end (stateOf m) = ap stateOf em ∙ d₄ .state is-done in
+                record {
+                  answer = u ∙ ap (answerOf right) (sym ended);
+                  state = s ∙ ap (λ (o : Outcome). after o (stateOf m)) (sym ended);
+                  canonical = subst (λ (y : Matrix). Canonical rights (y .kinds) (y .cells)) (sym em) (d₄ .canonical) }
+
+            pub done-leaked : w .leaked ≡ true → ExecutedAs right outcome m (record { answer = Leaked; matrix = w .matrix })
+            done-leaked z = finished (record { answer = Leaked; matrix = w .matrix }) refl (rw z)
+
+            pub done-quiet : w .leaked ≡ false → ExecutedAs right outcome m (record { answer = Done; matrix = w .matrix })
+            done-quiet z = finished (record { answer = Done; matrix = w .matrix }) refl (rw z)

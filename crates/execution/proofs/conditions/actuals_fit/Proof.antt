@@ -1,0 +1,55 @@
+use Prim.Native.Nat.{_≤_, _-_}
+use mathlib.Core.Path.{_≡_, refl}
+use native.Mathlib.Nat.{sub-zero}
+use Rattle.cases.specs.Cases.{each}
+use Rattle.cases.proofs.Loops.{each-stop, each-more, each-end}
+use Rattle.protection.specs.Command.{valuesOf}
+use Rattle.protection.specs.Execution.{bounded, actualFits}
+use borrow.Author.Needs.{needs}
+use native.Mathlib.Omega.{arith}
+use Rattle.execution.proofs.conditions.actuals_fit.Statement.{statement}
+use Rattle.execution.proofs.conditions.actuals_fit.Tie as tie
+use Rattle.execution.proofs.conditions.actuals_fit.Reads as reads
+use Rattle.execution.proofs.conditions.actuals_fit.Lts as lts
+use Rattle.execution.proofs.conditions.actual_fits.Reads as actual-fits-reads
+
+abbrev Inv-loop : tie.InvT-loop
+Inv-loop k a b₀ b = (b ≤ 4) × (each (actualFits bounded k (valuesOf a)) (4 - b) b ≡ each (actualFits bounded k (valuesOf a)) 4 0)
+
+abbrev μ-loop : tie.MeasureT-loop
+μ-loop k a b₀ b = 4 - b
+
+loop-holds : tie.Need-loop-holds Inv-loop μ-loop
+loop-holds c = (omega arith, rw sub-zero)
+
+actual-fits-requires : tie.Need-actual-fits-requires Inv-loop μ-loop
+actual-fits-requires c κs = search needs
+
+returns : tie.Need-returns Inv-loop μ-loop
+returns c = search each-stop
+
+add-b : tie.Need-add-b Inv-loop μ-loop
+add-b c = omega arith
+
+loop-less : tie.Need-loop-less Inv-loop μ-loop
+loop-less c = omega arith
+
+loop-again : tie.Need-loop-again Inv-loop μ-loop
+loop-again c = (omega arith, search each-more)
+
+returns-2 : tie.Need-returns-2 Inv-loop μ-loop
+returns-2 c = search each-end
+
+pub actuals-fit-spec : {M : Type 1} → statement M
+actuals-fit-spec =
+    tie.close
+    (tie.spec
+    Inv-loop
+    μ-loop
+    loop-holds
+    actual-fits-requires
+    returns
+    add-b
+    loop-less
+    loop-again
+    returns-2)

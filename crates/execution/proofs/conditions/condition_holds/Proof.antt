@@ -1,0 +1,61 @@
+use Rattle.execution.proofs.Asked.{condition-is}
+use borrow.Author.Needs.{needs}
+use Rattle.execution.proofs.conditions.condition_holds.Statement.{statement}
+use Rattle.execution.proofs.conditions.condition_holds.Tie as tie
+use Rattle.execution.proofs.conditions.condition_holds.Reads as reads
+use Rattle.execution.proofs.conditions.condition_holds.Lts as lts
+use Rattle.execution.proofs.operations.cell_holds.Reads as cell-holds-reads
+use Rattle.execution.proofs.operations.name_of.Reads as name-of-reads
+
+mul-q : tie.Need-mul-q
+mul-q c = search needs
+
+element-copy-out-q : tie.Need-element-copy-out-q
+element-copy-out-q c = search needs
+
+mul-name-of : tie.Need-mul-name-of
+mul-name-of c = search needs
+
+add-name-of : tie.Need-add-name-of
+add-name-of c = search needs
+
+element-copy-out-name-of : tie.Need-element-copy-out-name-of
+element-copy-out-name-of c = search needs
+
+name-of-requires : tie.Need-name-of-requires
+name-of-requires c κs = search needs
+
+mul-name-of-2 : tie.Need-mul-name-of-2
+mul-name-of-2 c = search needs
+
+add-name-of-2 : tie.Need-add-name-of-2
+add-name-of-2 c = search needs
+
+element-copy-out-name-of-2 : tie.Need-element-copy-out-name-of-2
+element-copy-out-name-of-2 c = search needs
+
+name-of-requires-2 : tie.Need-name-of-requires-2
+name-of-requires-2 c κs = search needs
+
+cell-holds-requires : tie.Need-cell-holds-requires
+cell-holds-requires c κs = search needs
+
+returns : tie.Need-returns
+returns c = search condition-is
+
+pub condition-holds-spec : {M : Type 1} → statement M
+condition-holds-spec =
+    tie.close
+    (tie.spec
+    mul-q
+    element-copy-out-q
+    mul-name-of
+    add-name-of
+    element-copy-out-name-of
+    name-of-requires
+    mul-name-of-2
+    add-name-of-2
+    element-copy-out-name-of-2
+    name-of-requires-2
+    cell-holds-requires
+    returns)

@@ -1,0 +1,60 @@
+use Prim.Native.Nat.{_≤_, _-_}
+use mathlib.Core.Path.{_≡_, refl}
+use native.Mathlib.Nat.{sub-zero}
+use Rattle.cases.specs.Cases.{listed}
+use Rattle.protection.specs.Command.{valuesOf}
+use Rattle.protection.specs.Execution.{holdAll}
+use Rattle.matrix.specs.Bytes.{view}
+use Rattle.commands.specs.Contents.{conditionOf}
+use Rattle.execution.proofs.Asked.{condition-stop, condition-more, conditions-end}
+use native.Mathlib.Omega.{arith}
+use Rattle.execution.proofs.conditions.conditions_hold.Statement.{statement}
+use Rattle.execution.proofs.conditions.conditions_hold.Tie as tie
+use Rattle.execution.proofs.conditions.conditions_hold.Reads as reads
+use Rattle.execution.proofs.conditions.conditions_hold.Lts as lts
+use Rattle.execution.proofs.conditions.condition_holds.Reads as condition-holds-reads
+
+abbrev Inv-loop : tie.InvT-loop
+Inv-loop kinds cells c a n j₀ j = (j ≤ n) × (n ≡ c .conditions) × (holdAll (view kinds cells) (valuesOf a) (listed (conditionOf c) (n - j) j) ≡ holdAll (view kinds cells) (valuesOf a) (listed (conditionOf c) (c .conditions) 0))
+
+abbrev μ-loop : tie.MeasureT-loop
+μ-loop kinds cells c a n j₀ j = n - j
+
+cast-n : tie.Need-cast-n Inv-loop μ-loop
+cast-n c = omega arith
+
+loop-holds : tie.Need-loop-holds Inv-loop μ-loop
+loop-holds c = (omega arith, refl, rw sub-zero)
+
+condition-holds-requires : tie.Need-condition-holds-requires Inv-loop μ-loop
+condition-holds-requires c κs = c .before .before .before .pre .each (c .before .loop .j) (omega arith)
+
+returns : tie.Need-returns Inv-loop μ-loop
+returns c = search condition-stop
+
+add-j : tie.Need-add-j Inv-loop μ-loop
+add-j c = omega arith
+
+loop-less : tie.Need-loop-less Inv-loop μ-loop
+loop-less c = omega arith
+
+loop-again : tie.Need-loop-again Inv-loop μ-loop
+loop-again c = (omega arith, refl, search condition-more)
+
+returns-2 : tie.Need-returns-2 Inv-loop μ-loop
+returns-2 c = search conditions-end
+
+pub conditions-hold-spec : {M : Type 1} → statement M
+conditions-hold-spec =
+    tie.close
+    (tie.spec
+    Inv-loop
+    μ-loop
+    cast-n
+    loop-holds
+    condition-holds-requires
+    returns
+    add-j
+    loop-less
+    loop-again
+    returns-2)

@@ -1,0 +1,53 @@
+-- What a rule run answers and leaves.
+use Prim.Native.Nat.{ℕ, _+_, _*_, _≤_, _<_}
+use mathlib.Core.Path.{_≡_}
+use mathlib.Core.Bool.{Bool, true, false}
+use mathlib.Core.List.{List}
+use lib.ListN.{getD, getElem?}
+use Rattle.cases.specs.Cases.{pick}
+use Rattle.protection.specs.Limits.{rights, operations}
+use Rattle.protection.specs.Command.{Operation, valuesOf}
+use Rattle.protection.specs.Execution.{canDoAll, effectAll, entersAnyNew, Outcome, refused, done, bounded, executeCommand}
+use Rattle.protection.specs.Leak.{after}
+use Rattle.matrix.specs.Canonical.{Canonical}
+use Rattle.matrix.specs.Matrices.{stateOf}
+use Rattle.matrix.specs.declared.Matrix.{Matrix}
+use Rattle.commands.specs.declared.Command.{Command}
+use Rattle.policy.specs.Contents.{systemOf}
+use Rattle.policy.specs.declared.Policy.{Policy}
+use Rattle.execution.specs.Operations.{Named}
+use Rattle.execution.specs.declared.Answer.{Answer}
+use Rattle.execution.specs.declared.Answer.the-variants.{Refused, Done, Leaked}
+use Rattle.execution.specs.declared.Executed.{Executed}
+use Rattle.execution.specs.declared.Ran.{Ran}
+
+-- the operations have rights that a cell can hold, and their parameters have names
+pub record OperationsApply (a : List ℕ) (c : Command) : Type 0 where
+  pub few : c .operations ≤ operations
+  pub right : (j : ℕ) → j < c .operations → getD (c .operation) (4 * j + 1) 0 < rights
+  pub first : (j : ℕ) → j < c .operations → Named a (getD (c .operation) (4 * j + 2) 0)
+  pub second : (j : ℕ) → j < c .operations → Named a (getD (c .operation) (4 * j + 3) 0)
+
+-- all operations were done, and this is what they left; or one could not be done
+pub record RanAs (right : ℕ) (m : Matrix) (a : List ℕ) (ops : List Operation) (x : Ran) : Type 0 where
+  pub able : x .done ≡ canDoAll (stateOf m) (valuesOf a) ops
+  pub leak : x .done ≡ true → x .leaked ≡ entersAnyNew (stateOf m) (valuesOf a) ops right
+  pub state : x .done ≡ true → stateOf (x .matrix) ≡ effectAll (stateOf m) (valuesOf a) ops
+  pub canonical : Canonical rights (x .matrix .kinds) (x .matrix .cells)
+
+-- the enum `Answer`: document 01's refusal, or done, with or without a leak of the right
+abbrev pub answerOf : ℕ → Outcome → Answer
+answerOf right (refused n) = Refused n
+answerOf right (done m new) = pick (new right) Leaked Done
+
+abbrev pub refusedExecuted : ℕ → Matrix → Executed
+refusedExecuted n m = record { answer = Refused n; matrix = m }
+
+-- a call on a matrix: a command's number and the four actuals
+abbrev pub outcomeOf : Policy → Matrix → ℕ → List ℕ → Outcome
+outcomeOf p m i a = executeCommand bounded (stateOf m) (getElem? (systemOf p .commands) i) (valuesOf a)
+
+pub record ExecutedAs (right : ℕ) (o : Outcome) (m : Matrix) (x : Executed) : Type 0 where
+  pub answer : x .answer ≡ answerOf right o
+  pub state : stateOf (x .matrix) ≡ after o (stateOf m)
+  pub canonical : Canonical rights (x .matrix .kinds) (x .matrix .cells)

@@ -1,0 +1,15 @@
+-- A policy as an accepted file has it: what the functions over a policy ask of it.
+use Prim.Native.Nat.{ℕ, _≤_, _<_}
+use lib.ListN.{getD}
+use Rattle.protection.specs.Limits.{rights, commands}
+use Rattle.matrix.specs.Canonical.{Canonical}
+use Rattle.commands.specs.Contents.{missing}
+use Rattle.commands.specs.Fits.{Fits}
+use Rattle.policy.specs.declared.Policy.{Policy}
+
+pub record PolicyFits (p : Policy) : Type 0 where
+  pub some-right : 1 ≤ p .rights
+  pub few-rights : p .rights ≤ rights
+  pub few-commands : p .commands ≤ commands
+  pub matrix-fits : Canonical (p .rights) (p .matrix .kinds) (p .matrix .cells)
+  pub commands-fit : (i : ℕ) → i < p .commands → Fits (p .rights) (getD (p .command) i missing)
