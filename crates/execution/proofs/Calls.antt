@@ -26,22 +26,23 @@ use Rattle.execution.proofs.Running.{executed-refused}
 -- what fits with g rights fits with more
 pub fits-wider : (g h : ℕ) (c : Command) → g ≤ h → Fits g c → Fits h c
 fits-wider g h c l F = record {
-    few-parameters = F .few-parameters;
-    few-conditions = F .few-conditions;
-    some-operation = F .some-operation;
-    few-operations = F .few-operations;
-    condition-right = λ j k. omega (arith, F .condition-right j k);
-    condition-subject = F .condition-subject;
-    condition-object = F .condition-object;
-    operation-right = λ j k. omega (arith, F .operation-right j k);
-    operation-first = F .operation-first;
-    operation-second = F .operation-second }
+  few-parameters = F .few-parameters;
+  few-conditions = F .few-conditions;
+  some-operation = F .some-operation;
+  few-operations = F .few-operations;
+  condition-right = λ j k. omega (arith, F .condition-right j k);
+  condition-subject = F .condition-subject;
+  condition-object = F .condition-object;
+  operation-right = λ j k. omega (arith, F .operation-right j k);
+  operation-first = F .operation-first;
+  operation-second = F .operation-second;
+}
 
 module _ (p : Policy) (m : Matrix) (i : ℕ) (a : List ℕ) (right : ℕ) where
   pub refused-11 : (x : Executed) → Canonical rights (m .kinds) (m .cells) → p .commands ≤ i → x ≡ refusedExecuted 11 m → ExecutedAs right (outcomeOf p m i a) m x
   refused-11 x K h e =
       executed-refused right 11 m (outcomeOf p m i a) x K
-        (ap (λ (w : Option ModelCommand). executeCommand bounded (stateOf m) w (valuesOf a)) (none-listed (λ j. meaning (getD (p .command) j missing)) (p .commands) 0 i h)) e
+      (ap (λ (w : Option ModelCommand). executeCommand bounded (stateOf m) w (valuesOf a)) (none-listed (λ j. meaning (getD (p .command) j missing)) (p .commands) 0 i h)) e
 
   pub call-fits : (c : Command) → PolicyFits p → i < p .commands → c ≡ getD (p .command) i missing → Fits rights c
   call-fits c F l e = subst (Fits rights) (sym e) (fits-wider (p .rights) rights (getD (p .command) i missing) (F .few-rights) (F .commands-fit i l))
@@ -51,5 +52,5 @@ module _ (p : Policy) (m : Matrix) (i : ℕ) (a : List ℕ) (right : ℕ) where
   called c x l e h =
       let z : 0 + i ≡ i = omega arith in
       let f : getElem? (systemOf p .commands) i ≡ some (meaning c) =
-          found-listed (λ j. meaning (getD (p .command) j missing)) (p .commands) 0 i l ∙ ap (λ (j : ℕ). some (meaning (getD (p .command) j missing))) z ∙ ap (λ (w : Command). some (meaning w)) (sym e) in
+      found-listed (λ j. meaning (getD (p .command) j missing)) (p .commands) 0 i l ∙ ap (λ (j : ℕ). some (meaning (getD (p .command) j missing))) z ∙ ap (λ (w : Command). some (meaning w)) (sym e) in
       subst (λ (w : Option ModelCommand). ExecutedAs right (executeCommand bounded (stateOf m) w (valuesOf a)) m x) (sym f) h

@@ -2,3 +2,4 @@ pub mod Applied
 pub mod Asked
 pub mod Running
 pub mod Calls
+pub mod Stored

@@ -97,16 +97,17 @@ module _ (right : ℕ) (m : Matrix) (a : List ℕ) (c : Command) (j : ℕ) (x : 
       let ap-op = applies-at a c j op h l e in
       let gr : Grants rights op = subst (Grants rights) (sym e) (grants-by (getD (c .operation) (4 * j) 0) (getD (c .operation) (4 * j + 1) 0) (getD (c .operation) (4 * j + 2) 0) (getD (c .operation) (4 * j + 3) 0) (h .right j l)) in
       let st : stateOf y ≡ effect (stateOf x) (valuesOf a) (operationOf c j) =
-          ap stateOf dy ∙ performed-state rights x (G .canonical) a op ap-op gr can ∙ ap (λ (p : Operation). effect (stateOf x) (valuesOf a) (modelOf p)) e in
+      ap stateOf dy ∙ performed-state rights x (G .canonical) a op ap-op gr can ∙ ap (λ (p : Operation). effect (stateOf x) (valuesOf a) (modelOf p)) e in
       let nw : b ≡ entersNew (stateOf x) (valuesOf a) (operationOf c j) right = db ∙ ap (λ (p : Operation). entersNew (stateOf x) (valuesOf a) (modelOf p) right) e in
       record {
         able = ap (λ (s : State). canDoAll s (valuesOf a) rest) st ∙ sym (ap (canDoAll (stateOf x) (valuesOf a)) unrolled ∙ rw z) ∙ G .able;
         leak =
-          ap₂ (λ (u : Bool) (s : State). (leaked || u) || entersAnyNew s (valuesOf a) rest right) nw st
-          ∙ or-assoc leaked (entersNew (stateOf x) (valuesOf a) (operationOf c j) right) (entersAnyNew (effect (stateOf x) (valuesOf a) (operationOf c j)) (valuesOf a) rest right)
-          ∙ ap (λ (ops : List ModelOperation). leaked || entersAnyNew (stateOf x) (valuesOf a) ops right) (sym unrolled) ∙ G .leak;
+            ap₂ (λ (u : Bool) (s : State). (leaked || u) || entersAnyNew s (valuesOf a) rest right) nw st
+            ∙ or-assoc leaked (entersNew (stateOf x) (valuesOf a) (operationOf c j) right) (entersAnyNew (effect (stateOf x) (valuesOf a) (operationOf c j)) (valuesOf a) rest right)
+            ∙ ap (λ (ops : List ModelOperation). leaked || entersAnyNew (stateOf x) (valuesOf a) ops right) (sym unrolled) ∙ G .leak;
         state = ap (λ (s : State). effectAll s (valuesOf a) rest) st ∙ ap (effectAll (stateOf x) (valuesOf a)) (sym unrolled) ∙ G .state;
-        canonical = subst (λ (w : Matrix). Canonical rights (w .kinds) (w .cells)) (sym dy) (performed-canonical rights x (G .canonical) a op ap-op gr can) }
+        canonical = subst (λ (w : Matrix). Canonical rights (w .kinds) (w .cells)) (sym dy) (performed-canonical rights x (G .canonical) a op ap-op gr can);
+      }
     where
       rest : List ModelOperation
       rest = listed (operationOf c) (c .operations - (j + 1)) (j + 1)
@@ -123,7 +124,8 @@ going-end right m a c j x leaked G h =
       able = rw z at (G .able);
       leak = λ _. sym (or-false leaked) ∙ (rw z at (G .leak));
       state = λ _. rw z at (G .state);
-      canonical = G .canonical }
+      canonical = G .canonical;
+    }
 
 -- ---- what a call that passed the test of its actuals may rest on
 module _ (a : List ℕ) (c : Command) (F : Fits rights c) (r : Bool) (d : r ≡ each (actualFits bounded (c .parameters) (valuesOf a)) parameters 0) (t : not r ≡ false) where
@@ -139,22 +141,28 @@ module _ (a : List ℕ) (c : Command) (F : Fits rights c) (r : Bool) (d : r ≡ 
 
   pub conditions-apply : ConditionsApply a c
   conditions-apply = record {
-      few = F .few-conditions;
-      each = λ j l. record {
-        number = omega (arith, F .few-conditions); right = F .condition-right j l;
-        subject = named (getD (c .condition) (3 * j + 1) 0) (F .condition-subject j l); object = named (getD (c .condition) (3 * j + 2) 0) (F .condition-object j l) } }
+    few = F .few-conditions;
+    each = λ j l. record {
+      number = omega (arith, F .few-conditions);
+      right = F .condition-right j l;
+      subject = named (getD (c .condition) (3 * j + 1) 0) (F .condition-subject j l);
+      object = named (getD (c .condition) (3 * j + 2) 0) (F .condition-object j l);
+    };
+  }
 
   pub operations-apply : OperationsApply a c
   operations-apply = record {
-      few = F .few-operations; right = F .operation-right;
-      first = λ j l. named (getD (c .operation) (4 * j + 2) 0) (F .operation-first j l);
-      second = λ j l. named (getD (c .operation) (4 * j + 3) 0) (F .operation-second j l) }
+    few = F .few-operations;
+    right = F .operation-right;
+    first = λ j l. named (getD (c .operation) (4 * j + 2) 0) (F .operation-first j l);
+    second = λ j l. named (getD (c .operation) (4 * j + 3) 0) (F .operation-second j l);
+  }
 
 -- ---- what a call answers
 pub executed-refused : (right n : ℕ) (m : Matrix) (o : Outcome) (x : Executed) → Canonical rights (m .kinds) (m .cells) → o ≡ refused n → x ≡ refusedExecuted n m → ExecutedAs right o m x
 executed-refused right n m o x K e d =
     subst (λ (y : Executed). ExecutedAs right o m y) (sym d)
-      (subst (λ (z : Outcome). ExecutedAs right z m (refusedExecuted n m)) (sym e) (record { answer = refl; state = refl; canonical = K }))
+    (subst (λ (z : Outcome). ExecutedAs right z m (refusedExecuted n m)) (sym e) (record { answer = refl; state = refl; canonical = K }))
 
 module _ (right : ℕ) (m : Matrix) (c : Command) (a : List ℕ) (K : Canonical rights (m .kinds) (m .cells)) where
   abbrev outcome : Outcome
@@ -202,7 +210,8 @@ module _ (right : ℕ) (m : Matrix) (c : Command) (a : List ℕ) (K : Canonical 
                 record {
                   answer = u ∙ ap (answerOf right) (sym ended);
                   state = s ∙ ap (λ (o : Outcome). after o (stateOf m)) (sym ended);
-                  canonical = subst (λ (y : Matrix). Canonical rights (y .kinds) (y .cells)) (sym em) (d₄ .canonical) }
+                  canonical = subst (λ (y : Matrix). Canonical rights (y .kinds) (y .cells)) (sym em) (d₄ .canonical);
+                }
 
             pub done-leaked : w .leaked ≡ true → ExecutedAs right outcome m (record { answer = Leaked; matrix = w .matrix })
             done-leaked z = finished (record { answer = Leaked; matrix = w .matrix }) refl (rw z)

@@ -1,3 +1,4 @@
 pub mod Operations
 pub mod Conditions
 pub mod Runs
+pub mod Files

@@ -214,3 +214,13 @@ module _ (g : ℕ) (m : State) (K : Proper g m) where
     cells-fit = cells-small;
     outside = cells-outside;
   }
+
+-- cells that fit with g rights fit with more
+pub canonical-wider : (g h : ℕ) (ks cs : List ℕ) → g ≤ h → Canonical g ks cs → Canonical h ks cs
+canonical-wider g h ks cs l K = record {
+  kinds-length = K .kinds-length;
+  cells-length = K .cells-length;
+  kinds-fit = K .kinds-fit;
+  cells-fit = λ c. le-trans (K .cells-fit c) (pow-le-pow-right (omega arith) l);
+  outside = K .outside;
+}

@@ -1,8 +1,6 @@
 use borrow.Author.Needs.{needs}
 use Rattle.commands.proofs.operation_names.Statement.{statement}
 use Rattle.commands.proofs.operation_names.Tie as tie
-use Rattle.commands.proofs.operation_names.Reads as reads
-use Rattle.commands.proofs.operation_names.Lts as lts
 
 enum-known-operation : tie.Need-enum-known-operation
 enum-known-operation c = search needs

@@ -2,11 +2,6 @@ use Rattle.execution.proofs.Calls.{refused-11, call-fits, called}
 use borrow.Author.Needs.{needs}
 use Rattle.execution.proofs.execute.Statement.{statement}
 use Rattle.execution.proofs.execute.Tie as tie
-use Rattle.execution.proofs.execute.Reads as reads
-use Rattle.execution.proofs.execute.Lts as lts
-use Rattle.execution.proofs.refused_with.Reads as refused-with-reads
-use Rattle.execution.proofs.run_command.Reads as run-command-reads
-use Rattle.policy.proofs.Policy.command_at.Reads as command-at-reads
 
 refused-with-requires : tie.Need-refused-with-requires
 refused-with-requires c κs = search needs

@@ -2,13 +2,6 @@ use Rattle.execution.proofs.Running.{spares-apply, conditions-apply, op
 use borrow.Author.Needs.{needs}
 use Rattle.execution.proofs.run_command.Statement.{statement}
 use Rattle.execution.proofs.run_command.Tie as tie
-use Rattle.execution.proofs.run_command.Reads as reads
-use Rattle.execution.proofs.run_command.Lts as lts
-use Rattle.execution.proofs.conditions.actuals_fit.Reads as actuals-fit-reads
-use Rattle.execution.proofs.conditions.conditions_hold.Reads as conditions-hold-reads
-use Rattle.execution.proofs.conditions.spares_exist.Reads as spares-exist-reads
-use Rattle.execution.proofs.refused_with.Reads as refused-with-reads
-use Rattle.execution.proofs.run_operations.Reads as run-operations-reads
 
 actuals-fit-requires : tie.Need-actuals-fit-requires
 actuals-fit-requires c κs = search needs

@@ -5,12 +5,6 @@ use borrow.Author.Needs.{needs}
 use native.Mathlib.Omega.{arith}
 use Rattle.execution.proofs.run_operations.Statement.{statement}
 use Rattle.execution.proofs.run_operations.Tie as tie
-use Rattle.execution.proofs.run_operations.Reads as reads
-use Rattle.execution.proofs.run_operations.Lts as lts
-use Rattle.commands.proofs.Command.operation_at.Reads as operation-at-reads
-use Rattle.execution.proofs.operations.can_do.Reads as can-do-reads
-use Rattle.execution.proofs.operations.enters_new.Reads as enters-new-reads
-use Rattle.execution.proofs.operations.perform.Reads as perform-reads
 
 abbrev Inv-loop : tie.InvT-loop
 Inv-loop m c a right n matrix₀ leaked₀ j₀ matrix leaked j = (j ≤ n) × (n ≡ c .operations) × Going right m a c j matrix leaked

@@ -9,8 +9,6 @@ use borrow.Author.Needs.{needs}
 use native.Mathlib.Omega.{arith}
 use Rattle.commands.proofs.Command.in_conditions.Statement.{statement}
 use Rattle.commands.proofs.Command.in_conditions.Tie as tie
-use Rattle.commands.proofs.Command.in_conditions.Reads as reads
-use Rattle.commands.proofs.Command.in_conditions.Lts as lts
 
 abbrev Inv-loop : tie.InvT-loop
 Inv-loop b self n j₀ j = (j ≤ n) × (n ≡ self .conditions) × (inConditions b (listed (conditionOf self) (n - j) j) ≡ inConditions b (listed (conditionOf self) (self .conditions) 0))

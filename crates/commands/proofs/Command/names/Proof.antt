@@ -2,10 +2,6 @@ use Rattle.commands.proofs.Names.{either-is}
 use borrow.Author.Needs.{needs}
 use Rattle.commands.proofs.Command.names.Statement.{statement}
 use Rattle.commands.proofs.Command.names.Tie as tie
-use Rattle.commands.proofs.Command.names.Reads as reads
-use Rattle.commands.proofs.Command.names.Lts as lts
-use Rattle.commands.proofs.Command.in_conditions.Reads as in-conditions-reads
-use Rattle.commands.proofs.Command.in_operations.Reads as in-operations-reads
 
 in-conditions-requires : tie.Need-in-conditions-requires
 in-conditions-requires c κs = search needs

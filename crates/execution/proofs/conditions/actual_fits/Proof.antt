@@ -2,8 +2,6 @@ use Rattle.cases.proofs.Picks.{tests}
 use borrow.Author.Needs.{needs}
 use Rattle.execution.proofs.conditions.actual_fits.Statement.{statement}
 use Rattle.execution.proofs.conditions.actual_fits.Tie as tie
-use Rattle.execution.proofs.conditions.actual_fits.Reads as reads
-use Rattle.execution.proofs.conditions.actual_fits.Lts as lts
 
 array-read-x : tie.Need-array-read-x
 array-read-x c = search needs

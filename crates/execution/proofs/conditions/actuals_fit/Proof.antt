@@ -9,9 +9,6 @@ use borrow.Author.Needs.{needs}
 use native.Mathlib.Omega.{arith}
 use Rattle.execution.proofs.conditions.actuals_fit.Statement.{statement}
 use Rattle.execution.proofs.conditions.actuals_fit.Tie as tie
-use Rattle.execution.proofs.conditions.actuals_fit.Reads as reads
-use Rattle.execution.proofs.conditions.actuals_fit.Lts as lts
-use Rattle.execution.proofs.conditions.actual_fits.Reads as actual-fits-reads
 
 abbrev Inv-loop : tie.InvT-loop
 Inv-loop k a b₀ b = (b ≤ 4) × (each (actualFits bounded k (valuesOf a)) (4 - b) b ≡ each (actualFits bounded k (valuesOf a)) 4 0)

@@ -2,10 +2,6 @@ use Rattle.execution.proofs.Asked.{condition-is}
 use borrow.Author.Needs.{needs}
 use Rattle.execution.proofs.conditions.condition_holds.Statement.{statement}
 use Rattle.execution.proofs.conditions.condition_holds.Tie as tie
-use Rattle.execution.proofs.conditions.condition_holds.Reads as reads
-use Rattle.execution.proofs.conditions.condition_holds.Lts as lts
-use Rattle.execution.proofs.operations.cell_holds.Reads as cell-holds-reads
-use Rattle.execution.proofs.operations.name_of.Reads as name-of-reads
 
 mul-q : tie.Need-mul-q
 mul-q c = search needs

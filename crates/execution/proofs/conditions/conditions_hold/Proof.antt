@@ -10,9 +10,6 @@ use Rattle.execution.proofs.Asked.{condition-stop, condition-more, cond
 use native.Mathlib.Omega.{arith}
 use Rattle.execution.proofs.conditions.conditions_hold.Statement.{statement}
 use Rattle.execution.proofs.conditions.conditions_hold.Tie as tie
-use Rattle.execution.proofs.conditions.conditions_hold.Reads as reads
-use Rattle.execution.proofs.conditions.conditions_hold.Lts as lts
-use Rattle.execution.proofs.conditions.condition_holds.Reads as condition-holds-reads
 
 abbrev Inv-loop : tie.InvT-loop
 Inv-loop kinds cells c a n j₀ j = (j ≤ n) × (n ≡ c .conditions) × (holdAll (view kinds cells) (valuesOf a) (listed (conditionOf c) (n - j) j) ≡ holdAll (view kinds cells) (valuesOf a) (listed (conditionOf c) (c .conditions) 0))

@@ -2,11 +2,6 @@ use Rattle.execution.proofs.Asked.{spare-named, spare-asked}
 use borrow.Author.Needs.{needs}
 use Rattle.execution.proofs.conditions.spare_exists.Statement.{statement}
 use Rattle.execution.proofs.conditions.spare_exists.Tie as tie
-use Rattle.execution.proofs.conditions.spare_exists.Reads as reads
-use Rattle.execution.proofs.conditions.spare_exists.Lts as lts
-use Rattle.commands.proofs.Command.names.Reads as names-reads
-use Rattle.execution.proofs.operations.name_of.Reads as name-of-reads
-use Rattle.matrix.proofs.is_object.Reads as is-object-reads
 
 names-requires : tie.Need-names-requires
 names-requires c κs = search needs

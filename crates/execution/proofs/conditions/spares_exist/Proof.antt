@@ -11,9 +11,6 @@ use Rattle.commands.specs.Contents.{meaning}
 use native.Mathlib.Omega.{arith}
 use Rattle.execution.proofs.conditions.spares_exist.Statement.{statement}
 use Rattle.execution.proofs.conditions.spares_exist.Tie as tie
-use Rattle.execution.proofs.conditions.spares_exist.Reads as reads
-use Rattle.execution.proofs.conditions.spares_exist.Lts as lts
-use Rattle.execution.proofs.conditions.spare_exists.Reads as spare-exists-reads
 
 abbrev Inv-loop : tie.InvT-loop
 Inv-loop kinds c a k b₀ b = (b ≤ c .parameters) × (k ≡ c .parameters) × (each (spareExists (meaning c) (view kinds []) (valuesOf a)) (c .parameters - b) b ≡ each (spareExists (meaning c) (view kinds []) (valuesOf a)) (c .parameters) 0)

@@ -2,13 +2,6 @@ use Rattle.execution.proofs.Applied.{applied, can-be-done}
 use borrow.Author.Needs.{needs}
 use Rattle.execution.proofs.operations.can_do.Statement.{statement}
 use Rattle.execution.proofs.operations.can_do.Tie as tie
-use Rattle.execution.proofs.operations.can_do.Reads as reads
-use Rattle.execution.proofs.operations.can_do.Lts as lts
-use Rattle.execution.proofs.operations.lone_object.Reads as lone-object-reads
-use Rattle.execution.proofs.operations.name_of.Reads as name-of-reads
-use Rattle.matrix.proofs.has_cell.Reads as has-cell-reads
-use Rattle.matrix.proofs.is_object.Reads as is-object-reads
-use Rattle.matrix.proofs.is_subject.Reads as is-subject-reads
 
 enum-known-operation : tie.Need-enum-known-operation
 enum-known-operation c = search needs

@@ -2,10 +2,6 @@ use Rattle.execution.proofs.Applied.{held-in, held-out}
 use borrow.Author.Needs.{needs}
 use Rattle.execution.proofs.operations.cell_holds.Statement.{statement}
 use Rattle.execution.proofs.operations.cell_holds.Tie as tie
-use Rattle.execution.proofs.operations.cell_holds.Reads as reads
-use Rattle.execution.proofs.operations.cell_holds.Lts as lts
-use Rattle.matrix.proofs.has_cell.Reads as has-cell-reads
-use Rattle.rights.proofs.holds.Reads as holds-reads
 
 has-cell-requires : tie.Need-has-cell-requires
 has-cell-requires c κs = search needs

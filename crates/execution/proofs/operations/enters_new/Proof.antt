@@ -2,10 +2,6 @@ use Rattle.execution.proofs.Applied.{applied, enters-here, enters-other
 use borrow.Author.Needs.{needs}
 use Rattle.execution.proofs.operations.enters_new.Statement.{statement}
 use Rattle.execution.proofs.operations.enters_new.Tie as tie
-use Rattle.execution.proofs.operations.enters_new.Reads as reads
-use Rattle.execution.proofs.operations.enters_new.Lts as lts
-use Rattle.execution.proofs.operations.cell_holds.Reads as cell-holds-reads
-use Rattle.execution.proofs.operations.name_of.Reads as name-of-reads
 
 enum-known-operation : tie.Need-enum-known-operation
 enum-known-operation c = search needs

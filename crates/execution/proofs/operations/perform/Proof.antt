@@ -2,12 +2,6 @@ use Rattle.execution.proofs.Applied.{applied, did}
 use borrow.Author.Needs.{needs}
 use Rattle.execution.proofs.operations.perform.Statement.{statement}
 use Rattle.execution.proofs.operations.perform.Tie as tie
-use Rattle.execution.proofs.operations.perform.Reads as reads
-use Rattle.execution.proofs.operations.perform.Lts as lts
-use Rattle.execution.proofs.operations.name_of.Reads as name-of-reads
-use Rattle.matrix.proofs.Matrix.renewed.Reads as renewed-reads
-use Rattle.matrix.proofs.Matrix.with_right.Reads as with-right-reads
-use Rattle.matrix.proofs.Matrix.without_right.Reads as without-right-reads
 
 enum-known-operation : tie.Need-enum-known-operation
 enum-known-operation c = search needs

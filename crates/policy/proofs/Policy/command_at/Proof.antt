@@ -2,8 +2,6 @@ use mathlib.Core.Path.{refl}
 use borrow.Author.Needs.{needs}
 use Rattle.policy.proofs.Policy.command_at.Statement.{statement}
 use Rattle.policy.proofs.Policy.command_at.Tie as tie
-use Rattle.policy.proofs.Policy.command_at.Reads as reads
-use Rattle.policy.proofs.Policy.command_at.Lts as lts
 
 mul-result : tie.Need-mul-result
 mul-result c = search needs
