@@ -1,6 +1,10 @@
 // The C boundary: numbers and byte slices, no `requires`. A slice is passed as a pointer and a length.
 ghost use mathlib.Core.Path.{_≡_};
 ghost use Rattle.policy.specs.Refusals.{refusal};
+ghost use Rattle.execution.specs.Files.{FileRun};
+ghost use Rattle.trace.specs.Replays.{fileReplay};
+ghost use Rattle.exports.specs.Boundary.{ReplayAnswer};
+use trace::Replay;
 
 // The refusal of whoever wrote the file, 1 to 9, or 0.
 #[no_mangle]
@@ -9,4 +13,34 @@ pub extern "C" fn access_check(file: &[u8]) -> u8
 {
     let read = policy::read_policy(file);
     read.refused
+}
+
+// Runs a rule on the file: 0 done, else the refusal, with the file as it was.
+#[no_mangle]
+pub extern "C" fn access_run(file: &mut [u8], rule: u8, a0: u8, a1: u8, a2: u8, a3: u8) -> u8
+    ensures { λ r. ⌜ FileRun (now (file .entry)) (record { command = rule; a0 = a0; a1 = a1; a2 = a2; a3 = a3 }) r (now (file .exit)) ⌝ }
+{
+    execution::file::run(file, rule, a0, a1, a2, a3)
+}
+
+// Replays a trace: 0 no leak, 255 a leak at the step, else the refusal at the step.
+#[no_mangle]
+pub extern "C" fn access_replay(file: &[u8], steps: &[u8], right: u8, step: &mut u64) -> u8
+    ensures { λ r. ⌜ ReplayAnswer (fileReplay (now (file .entry)) (now (steps .entry)) right) r (now (step .exit)) ⌝ }
+{
+    let replay = trace::replay_file(file, steps, right);
+    match replay {
+        Replay::NoLeak => {
+            *step = 0;
+            0
+        }
+        Replay::Leak(i) => {
+            *step = i as u64;
+            255
+        }
+        Replay::Refused { by, step: i } => {
+            *step = i as u64;
+            by
+        }
+    }
 }

@@ -1,0 +1,91 @@
+// Traces and their replay; refusals 21 and 31.
+ghost use mathlib.Core.Path.{_≡_};
+ghost use Prim.Native.Nat.{_+_, _*_, _≤_, _<_};
+ghost use lib.ListN.{length};
+ghost use Rattle.policy.specs.Contents.{systemOf};
+ghost use Rattle.policy.specs.Fits.{PolicyFits};
+ghost use Rattle.matrix.specs.Matrices.{stateOf};
+ghost use Rattle.trace.specs.Traces.{stepAt, calls, stepsIn};
+ghost use Rattle.trace.specs.Replays.{replayFrom, fileReplay};
+ghost use Rattle.trace.specs.Ends.{endOf};
+use execution::Answer;
+use policy::Policy;
+
+// One step of a trace: a command's number and four actuals.
+pub struct Step {
+    pub command: u8,
+    pub actuals: [u8; 4],
+}
+
+// What a replay answers: no leak, the first leaking step, or the first refused step with its refusal.
+pub enum Replay {
+    NoLeak,
+    Leak(usize),
+    Refused { by: u8, step: usize },
+}
+
+// The five bytes of step i.
+pub fn step_at(trace: &[u8], i: usize) -> Step
+    requires { ⌜ 5 * i + 5 ≤ length (now trace) ⌝ }
+    ensures { λ r. ⌜ r ≡ stepAt (now (trace .entry)) i ⌝ }
+{
+    let at = 5 * i;
+    Step {
+        command: trace[at],
+        actuals: [trace[at + 1], trace[at + 2], trace[at + 3], trace[at + 4]],
+    }
+}
+
+// How a replay ends at step i.
+fn end_of(answer: Answer, i: usize) -> Replay
+    ensures { λ r. ⌜ r ≡ endOf answer i ⌝ }
+{
+    match answer {
+        Answer::Refused(n) => Replay::Refused { by: n, step: i },
+        Answer::Done => Replay::NoLeak,
+        Answer::Leaked => Replay::Leak(i),
+    }
+}
+
+// The steps in order, on a copy of the matrix.
+fn replay_steps(p: Policy, trace: &[u8], right: u8) -> Replay
+    requires { ⌜ PolicyFits p ⌝ }
+    ensures { λ r. ⌜ r ≡ replayFrom (systemOf p) right (calls (now (trace .entry)) (stepsIn (now (trace .entry)))) 0 (stateOf (p .matrix)) ⌝ }
+{
+    let n = trace.len() / 5;
+    let mut matrix = p.matrix;
+    for i in 0..n {
+        let step = step_at(trace, i);
+        let actuals = step.actuals;
+        let executed = execution::execute(p, matrix, step.command, actuals, right);
+        let answer = executed.answer;
+        let Answer::Done = answer else {
+            return end_of(answer, i);
+        };
+        let next = executed.matrix;
+        matrix = next;
+    }
+    Replay::NoLeak
+}
+
+// Replays a trace on a file, with the right whose leak is asked about.
+pub fn replay_file(file: &[u8], trace: &[u8], right: u8) -> Replay
+    ensures { λ r. ⌜ r ≡ fileReplay (now (file .entry)) (now (trace .entry)) right ⌝ }
+{
+    let read = policy::read_policy(file);
+    let refused = read.refused;
+    if refused != 0 {
+        return Replay::Refused {
+            by: refused,
+            step: 0,
+        };
+    }
+    let p = read.policy;
+    if p.rights <= right {
+        return Replay::Refused { by: 21, step: 0 };
+    }
+    if trace.len() % 5 != 0 {
+        return Replay::Refused { by: 31, step: 0 };
+    }
+    replay_steps(p, trace, right)
+}
