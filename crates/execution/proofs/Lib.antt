@@ -3,3 +3,5 @@ pub mod Asked
 pub mod Running
 pub mod Calls
 pub mod Stored
+pub mod Preserved
+pub mod Demand2
