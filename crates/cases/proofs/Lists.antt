@@ -8,7 +8,7 @@ use native.Mathlib.Numerals.{add-one}
 use native.Mathlib.Omega.{arith}
 use borrow.Author.Tests.{not-true, not-false}
 use mathlib.Core.Option.{Option, none, some}
-use lib.ListN.{length, getD, getElem?}
+use lib.ListN.{length, getD, getElem?, take}
 use Rattle.cases.specs.Cases.{listed}
 
 pub length-listed : {A : Type 0} (f : ℕ → A) (n j : ℕ) → length (listed f n j) ≡ n
@@ -67,3 +67,8 @@ pub getD-inside : {A : Type 0} (l : List A) (i : ℕ) (a b : A) → i < length l
 getD-inside [] i a b h = absurd (not-suc-le-zero h)
 getD-inside (x ∷ l) zero a b h = refl
 getD-inside (x ∷ l) (suc i) a b h = getD-inside l i a b (le-of-suc-le-suc h)
+
+pub take-listed : {A : Type 0} (f : ℕ → A) (k n j : ℕ) → k ≤ n → take k (listed f n j) ≡ listed f k j
+take-listed f zero n j h = refl
+take-listed f (suc k) zero j h = absurd (not-suc-le-zero h)
+take-listed {A} f (suc k) (suc n) j h = ap (λ (l : List A). f j ∷ l) (take-listed f k n (suc j) (le-of-suc-le-suc h))

@@ -1,0 +1,399 @@
+//! Runs the reference implementation on document 01's cases P1 to P10 and on
+//! its settled readings, and its parts against each other. Needs no library.
+
+use reference::brute::{self, Found, Instance, Move, State};
+use reference::desk::desk;
+use reference::file::{self, Contents};
+use reference::generate::*;
+use reference::judge::{judge, most_steps, SAFE, UNSAFE};
+use reference::machine::{numbers, run, run_file, AccessMatrix, Bounded, Unbounded};
+use reference::random::Random;
+use reference::replay::{replay, LEAK};
+use reference::report::{hex, Arguments, Group, Report};
+use reference::second;
+
+/// A draft with these kinds and these rights in cells.
+fn draft(rights: u8, kinds: &[(usize, u8)], cells: &[(usize, usize, u8)]) -> Draft {
+    let mut draft = Draft::empty(rights);
+    for &(name, kind) in kinds {
+        draft.kinds[name] = kind;
+    }
+    for &(s, o, right) in cells {
+        draft.put(s, o, right);
+    }
+    draft
+}
+
+fn with(mut draft: Draft, rules: &[Vec<u8>]) -> Draft {
+    draft.rules = rules.to_vec();
+    draft
+}
+
+/// What the desk program prints for the right and the file.
+fn printed(draft: &Draft, right: u8) -> String {
+    let mut input = vec![right];
+    input.extend(draft.file());
+    desk(&input)
+}
+
+fn same<T: PartialEq + std::fmt::Debug>(group: &mut Group, given: T, wanted: T) {
+    group.input(given == wanted, || {
+        format!("given {given:?}, wanted {wanted:?}")
+    });
+}
+
+/// Judges with a buffer of this length, filled with 170.
+fn judged(draft: &Draft, right: u8, length: usize) -> (u8, u64, Vec<u8>) {
+    let mut buffer = vec![170; length];
+    let account = judge(&draft.file(), right, &mut buffer);
+    (account.code, account.steps, buffer)
+}
+
+fn p1() -> Draft {
+    with(
+        draft(2, &[(0, 2), (1, 2), (2, 1)], &[(0, 2, 0)]),
+        &[rule(3, &[[0, 0, 2]], &[[ENTER, 1, 1, 2]])],
+    )
+}
+
+fn p2() -> Draft {
+    with(
+        draft(2, &[(0, 2)], &[(0, 0, 0), (0, 0, 1)]),
+        &[
+            rule(2, &[], &[[DELETE, 0, 0, 1]]),
+            rule(2, &[[1, 0, 1]], &[[ENTER, 0, 0, 1]]),
+        ],
+    )
+}
+
+fn p3() -> Draft {
+    let mut p3 = p2();
+    p3.rules[1] = rule(2, &[[0, 0, 1]], &[[ENTER, 0, 0, 1]]);
+    p3
+}
+
+fn p4() -> Draft {
+    with(
+        draft(1, &[], &[]),
+        &[
+            rule(1, &[], &[[CREATE_SUBJECT, 0, 0, 0]]),
+            rule(2, &[], &[[ENTER, 0, 0, 1]]),
+        ],
+    )
+}
+
+fn p5() -> Draft {
+    let mut p5 = p4();
+    p5.rules[0] = rule(2, &[], &[[CREATE_SUBJECT, 0, 0, 0]]);
+    p5
+}
+
+fn objects(count: usize) -> Draft {
+    let kinds: Vec<_> = (0..count).map(|name| (name, 1)).collect();
+    draft(1, &kinds, &[])
+}
+
+fn p9() -> Draft {
+    with(
+        draft(1, &[(0, 2)], &[]),
+        &[rule(
+            2,
+            &[],
+            &[
+                [ENTER, 0, 0, 1],
+                [DESTROY_SUBJECT, 0, 0, 0],
+                [ENTER, 0, 1, 1],
+            ],
+        )],
+    )
+}
+
+fn p10() -> Draft {
+    with(
+        draft(1, &[(0, 2)], &[]),
+        &[rule(1, &[], &[[CREATE_SUBJECT, 0, 0, 0]])],
+    )
+}
+
+fn main() {
+    let arguments = Arguments::read("cases");
+    let mut random = Random::new(arguments.seed);
+    let random = &mut random;
+    let mut report = Report::default();
+
+    report.group("P1", 6, |group| {
+        let p1 = p1();
+        same(group, printed(&p1, 1), "UNSAFE 1\n0 0 0 2\n".to_string());
+        let contents = file::read(&p1.file()).unwrap();
+        same(group, 5 * most_steps(&contents), 170);
+        same(group, judged(&p1, 1, 169), (24, 0, vec![170; 169]));
+        for length in [170, 171, 400] {
+            let mut wanted = vec![170; length];
+            wanted[..5].copy_from_slice(&[0, 0, 0, 2, 255]);
+            same(group, judged(&p1, 1, length), (UNSAFE, 1, wanted));
+        }
+    });
+
+    report.group("P2 to P8", 10, |group| {
+        let text = |line: &str| line.to_string();
+        same(group, printed(&p2(), 0), text("UNSAFE 2\n0 0 0\n1 0 0\n"));
+        same(group, printed(&p3(), 0), text("SAFE 0\n"));
+        same(group, printed(&p4(), 0), text("UNSAFE 2\n0 0\n1 0 0\n"));
+        same(group, printed(&p5(), 0), text("SAFE 0\n"));
+        same(group, printed(&draft(1, &[], &[]), 0), text("SAFE 0\n"));
+        same(group, printed(&objects(30), 0), text("SAFE 0\n"));
+        same(group, printed(&objects(31), 0), text("REFUSED 23\n"));
+        same(group, desk(&[]), text("REFUSED 1\n"));
+        same(group, desk(&[0]), text("REFUSED 1\n"));
+        same(group, printed(&p1(), 2), text("REFUSED 21\n"));
+    });
+
+    report.group("P9 and P10", 4, |group| {
+        for (draft, actuals) in [(p9(), [0, 0, 255, 255]), (p10(), [0, 255, 255, 255])] {
+            let mut file = draft.file();
+            same(group, run_file(&mut file, 0, actuals), 15);
+            same(group, file, draft.file());
+        }
+    });
+
+    report.group("the brute search on P1 to P6", 6, |group| {
+        let cases = [
+            (p2(), Found::Leak),
+            (p3(), Found::NoLeak),
+            (p4(), Found::Leak),
+            (p5(), Found::NoLeak),
+            (draft(1, &[], &[]), Found::NoLeak),
+            (p1(), Found::NoLeak),
+        ];
+        for (draft, wanted) in cases {
+            let contents = file::read(&draft.file()).unwrap();
+            same(group, brute::search(&contents, 0, 2, 100_000).0, wanted);
+        }
+    });
+
+    report.group("errors near at hand", 4, |group| {
+        // Only an object, which must come first, fills the unnamed blank.
+        let object_first = with(
+            draft(1, &[], &[]),
+            &[
+                rule(2, &[], &[[CREATE_SUBJECT, 0, 0, 0]]),
+                rule(1, &[], &[[CREATE_OBJECT, 0, 0, 0]]),
+                rule(2, &[], &[[ENTER, 0, 0, 1]]),
+            ],
+        );
+        let listing = "UNSAFE 3\n1 0\n0 1 0\n2 1 0\n";
+        same(group, printed(&object_first, 0), listing.to_string());
+        // Without the object rule nothing can start.
+        let mut none = object_first.clone();
+        none.rules.remove(1);
+        same(group, printed(&none, 0), "SAFE 0\n".to_string());
+        // One name for both blanks is the only way.
+        let one_name = with(
+            draft(2, &[(7, 2)], &[(7, 7, 1)]),
+            &[rule(2, &[[1, 1, 0]], &[[ENTER, 0, 0, 1]])],
+        );
+        let listing = "UNSAFE 1\n0 7 7\n".to_string();
+        same(group, printed(&one_name, 0), listing);
+        // A created blank under a condition is never allowed.
+        let never = with(
+            draft(1, &[(0, 2)], &[(0, 0, 0)]),
+            &[
+                rule(1, &[[0, 0, 0]], &[[CREATE_SUBJECT, 0, 0, 0]]),
+                rule(2, &[[0, 0, 0]], &[[ENTER, 0, 1, 1]]),
+            ],
+        );
+        same(group, printed(&never, 0), "SAFE 0\n".to_string());
+    });
+
+    report.group("what a leak is", 12, |group| {
+        let start = draft(2, &[(0, 2)], &[(0, 0, 0)]);
+        let delete = [DELETE, 0, 0, 0];
+        let enter = [ENTER, 0, 0, 0];
+        let trace = [0, 0, 255, 255, 255];
+        let answer = |steps: &[[u8; 4]], trace: &[u8], right: u8| {
+            let file = with(start.clone(), &[rule(1, &[], steps)]).file();
+            replay(&file, trace, right)
+        };
+        // The matrix ends as it began, and yet it leaks.
+        same(group, answer(&[delete, enter], &trace, 0), (LEAK, 0));
+        same(group, answer(&[enter], &trace, 0), (0, 0));
+        let gone = [ENTER, 1, 0, 0];
+        let removed = [DELETE, 1, 0, 0];
+        same(group, answer(&[gone, removed], &trace, 1), (LEAK, 0));
+        // A rule refused at a later step has entered nothing.
+        let create = [CREATE_SUBJECT, 0, 0, 0];
+        same(group, answer(&[gone, create], &trace, 1), (15, 0));
+        same(group, answer(&[gone], &[], 1), (0, 0));
+        same(group, answer(&[gone], &trace[..4], 1), (31, 0));
+        same(group, answer(&[gone], &trace[..4], 2), (21, 0));
+        // The first of leak and refusal.
+        let twice = [0, 0, 255, 255, 255, 1, 0, 255, 255, 255];
+        same(group, answer(&[gone], &twice, 1), (LEAK, 0));
+        same(group, answer(&[enter], &twice, 0), (11, 1));
+        same(group, answer(&[enter], &[0, 32, 255, 255, 255], 0), (12, 0));
+        same(
+            group,
+            answer(&[enter], &[0, 255, 255, 255, 255], 0),
+            (12, 0),
+        );
+        same(group, answer(&[enter], &[0, 0, 0, 255, 255], 0), (12, 0));
+        same(group, answer(&[enter], &[0, 1, 255, 255, 255], 0), (15, 0));
+    });
+
+    report.group("the order of 11 to 15", 8, |group| {
+        // Blank 2 is unnamed; the condition and the step want subjects.
+        let section = rule(3, &[[0, 0, 1]], &[[ENTER, 1, 1, 0]]);
+        let file = with(
+            draft(2, &[(0, 2), (1, 1)], &[(0, 0, 0), (0, 1, 0)]),
+            &[section],
+        )
+        .file();
+        let answer = |rule: u8, actuals: [u8; 4]| run_file(&mut file.clone(), rule, actuals);
+        same(group, answer(1, [99, 99, 99, 0]), 11);
+        same(group, answer(0, [9, 9, 9, 0]), 12);
+        same(group, answer(0, [9, 9, 255, 255]), 12);
+        same(group, answer(0, [9, 9, 9, 255]), 13);
+        same(group, answer(0, [9, 9, 0, 255]), 14);
+        same(group, answer(0, [0, 1, 0, 255]), 15);
+        same(group, answer(0, [0, 0, 0, 255]), 0);
+        // The created name does not fill an unnamed blank of the same run.
+        let mut fresh = p5().file();
+        same(group, run_file(&mut fresh, 0, [4, 4, 255, 255]), 13);
+    });
+
+    report.group("the printer's machine has no bound for names", 6, |group| {
+        let contents = file::read(&p4().file()).unwrap();
+        let start = Unbounded::start(&contents.matrix);
+        let far = 1_000_000_007;
+        let created = run(&start, &contents.rules, 0, [far, 255, 255, 255]);
+        let state = created.ok().unwrap().after;
+        same(group, state.is_subject(far), true);
+        let entered = run(&state, &contents.rules, 1, [far, far, 255, 255]);
+        same(group, entered.ok().map(|done| done.leaked), Some(1));
+        let refusal = |rule: u64, actuals: [u64; 4]| {
+            run(&state, &contents.rules, rule, actuals)
+                .err()
+                .unwrap_or(0)
+        };
+        same(group, refusal(0, [255, 255, 255, 255]), 0);
+        same(group, refusal(0, [far, 255, 255, 255]), 15);
+        same(group, refusal(0, [5, 0, 255, 255]), 12);
+        same(group, refusal(u64::MAX, [5, 255, 255, 255]), 11);
+    });
+
+    report.group("bounded and unbounded machine agree", 20_000, |group| {
+        let mut done = 0;
+        while group.inputs < 20_000 {
+            let contents = file::read(&lively(random).file()).unwrap();
+            done += agree(group, random, &contents);
+        }
+        group.demand(done >= 5_000, || format!("only {done} runs carried out"));
+    });
+
+    report.group(
+        "the machine and the brute search's agree",
+        20_000,
+        |group| {
+            while group.inputs < 20_000 {
+                let contents = file::read(&small(random).file()).unwrap();
+                if !contents.rules.is_empty() {
+                    agree_with_brute(group, random, &contents);
+                }
+            }
+        },
+    );
+
+    report.group("reference and second judge agree", 150, |group| {
+        while group.inputs < 150 {
+            let (draft, right) = match group.inputs % 3 {
+                0 => (small(random), 0),
+                1 => large(random),
+                _ => chain(random),
+            };
+            // The second judge is slow on four blanks.
+            if draft.rules.iter().any(|section| section[0] > 2) {
+                continue;
+            }
+            let file = draft.file();
+            let mut one = vec![170; reference::desk::BUFFER];
+            let mut other = one.clone();
+            let account = judge(&file, right, &mut one);
+            let answer = second::judge(&file, right, &mut other);
+            group.input(
+                (account.code, account.steps) == answer && one == other,
+                || format!("{account:?} and {answer:?}, right {right}, {}", hex(&file)),
+            );
+            group.demand(matches!(account.code, SAFE | UNSAFE), || {
+                format!("refused {}", account.code)
+            });
+        }
+    });
+
+    report.finish();
+}
+
+/// A walk on both machines at once; gives the number of runs carried out.
+fn agree(group: &mut Group, random: &mut Random, contents: &Contents) -> u64 {
+    let mut carried_out = 0;
+    let mut bounded = contents.matrix.clone();
+    let mut unbounded = Unbounded::start(&bounded);
+    for _ in 0..50 {
+        let (rule, actuals) = likely_run(random, &contents.rules, &bounded);
+        let number = u64::from(rule);
+        let one = run(&bounded, &contents.rules, number, numbers(actuals));
+        let other = run(&unbounded, &contents.rules, number, numbers(actuals));
+        let good = match (one, other) {
+            (Ok(one), Ok(other)) => {
+                carried_out += 1;
+                bounded = one.after;
+                unbounded = other.after;
+                one.leaked == other.leaked && Unbounded::start(&bounded) == unbounded
+            }
+            (Err(one), Err(other)) => one == other,
+            _ => false,
+        };
+        group.input(good, || format!("rule {rule}, actuals {actuals:?}"));
+    }
+    carried_out
+}
+
+/// A walk on the brute search's machine and on the reference's.
+fn agree_with_brute(group: &mut Group, random: &mut Random, contents: &Contents) -> u64 {
+    let mut carried_out = 0;
+    let mut matrix: Bounded = contents.matrix.clone();
+    let mut pool = matrix.names();
+    pool.extend((0..32).filter(|&name| !matrix.exists(name)).take(3));
+    let mut state = State::start(&matrix, &pool);
+    for _ in 0..50 {
+        let number = random.below(contents.rules.len());
+        let rule = &contents.rules[number];
+        let mut positions = [0; 4];
+        let mut actuals = [255; 4];
+        for blank in 0..rule.blanks {
+            positions[blank] = random.below(pool.len());
+            actuals[blank] = pool[positions[blank]];
+        }
+        let one = run(&matrix, &contents.rules, number as u64, actuals);
+        let other = Instance::new(rule, &positions).run(&state);
+        let good = match (one, other) {
+            (Err(_), Move::Refused) => true,
+            (Ok(done), Move::To(after)) => {
+                carried_out += 1;
+                matrix = done.after;
+                state = after;
+                done.leaked == 0
+            }
+            (Ok(done), Move::Leak(right, after)) => {
+                carried_out += 1;
+                matrix = done.after;
+                state = after;
+                done.leaked == 1 << right
+            }
+            _ => false,
+        };
+        group.input(good && State::start(&matrix, &pool) == state, || {
+            format!("rule {number}, actuals {actuals:?}")
+        });
+    }
+    carried_out
+}

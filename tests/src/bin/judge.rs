@@ -1,0 +1,288 @@
+//! Compares the verified library's judge with a brute search on tiny tables
+//! and with the reference judge on larger ones.
+
+#[path = "../boundary/judge.rs"]
+mod boundary;
+
+use reference::brute::{search, Found};
+use reference::damage::{plant, Fault};
+use reference::file;
+use reference::generate::*;
+use reference::judge::{SAFE, UNSAFE};
+use reference::random::Random;
+use reference::report::{hex, Arguments, Counts, Report};
+use reference::second;
+use reference::verdict::{compare, needed, Judge};
+
+/// More states than this are given up; nothing is known of such a table.
+const LIMIT: usize = 3_000;
+
+fn main() {
+    let arguments = Arguments::read("judge");
+    let judge: Judge = if arguments.own {
+        second::judge
+    } else {
+        boundary::judge
+    };
+    let mut random = Random::new(arguments.seed);
+    let random = &mut random;
+    let mut report = Report::default();
+    let mut counts = Counts::default();
+
+    report.group("P1 to P8", 9, |group| {
+        let mut try_case = |draft: &Draft, right: u8, length: usize, code: u8, steps: &[u8]| {
+            let file = draft.file();
+            let (account, _) = compare(group, judge, random, &file, right, length);
+            let mut buffer = vec![0; length];
+            let answer = judge(&file, right, &mut buffer);
+            let good = answer == (code, steps.len() as u64 / 5)
+                && account.code == code
+                && buffer.starts_with(steps);
+            group.demand(good, || {
+                format!("answer {answer:?}, bytes {}", hex(&buffer))
+            });
+        };
+        let mut p1 = Draft::empty(2);
+        p1.kinds[..3].copy_from_slice(&[2, 2, 1]);
+        p1.put(0, 2, 0);
+        p1.rules.push(rule(3, &[[0, 0, 2]], &[[ENTER, 1, 1, 2]]));
+        try_case(&p1, 1, 170, UNSAFE, &[0, 0, 0, 2, 255]);
+        try_case(&p1, 1, 169, 24, &[]);
+        let mut p2 = Draft::empty(2);
+        p2.kinds[0] = 2;
+        p2.put(0, 0, 0);
+        p2.put(0, 0, 1);
+        p2.rules.push(rule(2, &[], &[[DELETE, 0, 0, 1]]));
+        let mut p3 = p2.clone();
+        p2.rules.push(rule(2, &[[1, 0, 1]], &[[ENTER, 0, 0, 1]]));
+        p3.rules.push(rule(2, &[[0, 0, 1]], &[[ENTER, 0, 0, 1]]));
+        let steps = [0, 0, 0, 255, 255, 1, 0, 0, 255, 255];
+        try_case(&p2, 0, 200, UNSAFE, &steps);
+        try_case(&p3, 0, 200, SAFE, &[]);
+        let mut p4 = Draft::empty(1);
+        let mut p5 = p4.clone();
+        p4.rules.push(rule(1, &[], &[[CREATE_SUBJECT, 0, 0, 0]]));
+        p5.rules.push(rule(2, &[], &[[CREATE_SUBJECT, 0, 0, 0]]));
+        for draft in [&mut p4, &mut p5] {
+            draft.rules.push(rule(2, &[], &[[ENTER, 0, 0, 1]]));
+        }
+        let steps = [0, 0, 255, 255, 255, 1, 0, 0, 255, 255];
+        try_case(&p4, 0, 200, UNSAFE, &steps);
+        try_case(&p5, 0, 200, SAFE, &[]);
+        let mut objects = Draft::empty(1);
+        try_case(&objects, 0, 200, SAFE, &[]);
+        objects.kinds[..30].fill(1);
+        try_case(&objects, 0, 200, SAFE, &[]);
+        objects.kinds[30] = 1;
+        try_case(&objects, 0, 200, 23, &[]);
+    });
+
+    report.group("brute search on tiny tables", 24_000, |group| {
+        let (mut safe, mut by_rounds, mut by_closing) = (0, 0, 0);
+        let (mut dull, mut unknown, mut pools) = (0, 0, [0; 2]);
+        let (mut states, mut most) = (0, 0);
+        while group.inputs < 24_000 {
+            let draft = small(random);
+            let file = draft.file();
+            let contents = file::read(&file).unwrap();
+            let right = if random.percent(80) { 0 } else { draft.rights - 1 };
+            // Three further names if that can be exhausted, else two.
+            let mut further = 3;
+            let (mut found, mut seen) = search(&contents, right, further, LIMIT);
+            if found == Found::TooMany {
+                further = 2;
+                (found, seen) = search(&contents, right, further, LIMIT);
+            }
+            if found == Found::TooMany {
+                unknown += 1;
+                continue;
+            }
+            // Tables where next to nothing can happen are mostly left out.
+            if found == Found::NoLeak && seen < 12 && !random.percent(20) {
+                dull += 1;
+                continue;
+            }
+            pools[further - 2] += 1;
+            states += seen;
+            most = most.max(seen);
+
+            let wanted = if found == Found::Leak { UNSAFE } else { SAFE };
+            let length = needed(&file) + random.below(7);
+            let (account, answer) = compare(group, judge, random, &file, right, length);
+            group.demand(answer == wanted, || {
+                format!(
+                    "answer {answer}, brute search {found:?} with {seen} states, right {right}, {}",
+                    hex(&file)
+                )
+            });
+            match (account.code, account.closing) {
+                (UNSAFE, true) => by_closing += 1,
+                (UNSAFE, false) => by_rounds += 1,
+                _ => safe += 1,
+            }
+            counts.add(account.code);
+        }
+        println!(
+            "  safe {safe}, unsafe in a round {by_rounds}, unsafe by the closing search {by_closing}"
+        );
+        println!(
+            "  three further names {}, two {}; {states} states, at most {most}; not exhausted {unknown}, left out {dull}",
+            pools[1], pools[0]
+        );
+        group.demand(safe >= 8_000, || format!("only {safe} safe"));
+        group.demand(by_rounds >= 2_500, || format!("only {by_rounds} unsafe in a round"));
+        group.demand(by_closing >= 1_500, || format!("only {by_closing} by the closing search"));
+        group.demand(pools[1] >= 20_000, || format!("only {} with three names", pools[1]));
+    });
+
+    report.group("larger tables against the plain judge", 1_000, |group| {
+        let (mut safe, mut by_rounds, mut by_closing) = (0, 0, 0);
+        let (mut long, mut steps, mut rounds) = (0, 0, 0);
+        while group.inputs < 1_000 {
+            let (draft, right) = large(random);
+            let file = draft.file();
+            let length = needed(&file) + random.pick(&[0, 0, 1, 4, 5, 1000]);
+            let (account, _) = compare(group, judge, random, &file, right, length);
+            match (account.code, account.closing) {
+                (UNSAFE, true) => by_closing += 1,
+                (UNSAFE, false) => by_rounds += 1,
+                _ => safe += 1,
+            }
+            counts.add(account.code);
+            long += u64::from(account.steps >= 10);
+            steps = account.steps.max(steps);
+            rounds = account.rounds.max(rounds);
+        }
+        println!(
+            "  safe {safe}, unsafe in a round {by_rounds}, unsafe by the closing search {by_closing}; {long} with 10 steps or more, at most {steps} steps, {rounds} rounds"
+        );
+        group.demand(safe >= 200, || format!("only {safe} safe"));
+        group.demand(by_rounds >= 50, || format!("only {by_rounds} unsafe in a round"));
+        group.demand(by_closing >= 50, || format!("only {by_closing} by the closing search"));
+        group.demand(long >= 200, || format!("only {long} with 10 steps or more"));
+    });
+
+    report.group("30 names, and both creates done", 150, |group| {
+        let mut both = 0;
+        while group.inputs < 150 {
+            let (mut draft, right) = large(random);
+            let names = draft.kinds.iter().filter(|kind| **kind > 0).count();
+            if names < 29 {
+                continue;
+            }
+            draft.rules.truncate(28);
+            // Twice each: the second finds a name absent once, and then none.
+            for kind in [CREATE_SUBJECT, CREATE_OBJECT, CREATE_OBJECT, CREATE_SUBJECT] {
+                let blanks = random.between(1, 2) as u8;
+                let place = random.below(draft.rules.len() + 1);
+                let section = rule(blanks, &[], &[[kind, 0, blanks - 1, 0]]);
+                draft.rules.insert(place, section);
+            }
+            let file = draft.file();
+            let (account, _) = compare(group, judge, random, &file, right, needed(&file));
+            counts.add(account.code);
+            both += u64::from(account.steps >= 2);
+        }
+        group.demand(both >= 50, || format!("only {both} with two steps"));
+    });
+
+    report.group("buffer lengths", 6_000, |group| {
+        for round in 0..1_000 {
+            let (draft, right) = if round % 25 == 0 {
+                chain(random)
+            } else {
+                (small(random), 0)
+            };
+            let file = draft.file();
+            let needed = needed(&file);
+            for length in [0, 1, random.below(needed), needed - 1] {
+                let (account, _) = compare(group, judge, random, &file, right, length);
+                counts.add(account.code);
+                group.demand(account.code == 24, || {
+                    format!("{length} bytes: {account:?}")
+                });
+            }
+            for length in [needed, needed + 1] {
+                let (account, _) = compare(group, judge, random, &file, right, length);
+                counts.add(account.code);
+                group.demand(matches!(account.code, SAFE | UNSAFE), || {
+                    format!("{length} bytes: {account:?}")
+                });
+            }
+        }
+    });
+
+    report.group("refusals 21 to 24 in their order", 10_000, |group| {
+        while group.inputs < 10_000 {
+            let mut draft = small(random);
+            let mut right = random.below(draft.rights as usize) as u8;
+            let mut wanted = None;
+            let mut length = 40_000;
+            // Each fault by chance; the first in the order is the answer.
+            if random.percent(50) {
+                length = random.below(needed(&draft.file()));
+                wanted = Some(24);
+            }
+            if random.percent(40) {
+                let count = random.pick(&[31, 31, 32]);
+                let kind = random.between(1, 2) as u8;
+                let mut names: Vec<usize> = (0..32).collect();
+                random.shuffle(&mut names);
+                let mut exist = draft.kinds.iter().filter(|kind| **kind > 0).count();
+                for name in names {
+                    if draft.kinds[name] == 0 && exist < count {
+                        draft.kinds[name] = kind;
+                        exist += 1;
+                    }
+                }
+                wanted = Some(23);
+            }
+            if random.percent(30) {
+                let place = random.below(draft.rules.len() + 1);
+                let steps = vec![[ENTER, 0, 0, 0]; random.between(2, 6)];
+                draft.rules.insert(place, rule(1, &[], &steps));
+                wanted = Some(22);
+            }
+            if random.percent(20) {
+                right = random.pick(&[draft.rights, 8, 31, 255]);
+                wanted = Some(21);
+            }
+            let Some(wanted) = wanted else {
+                continue;
+            };
+            let (account, _) = compare(group, judge, random, &draft.file(), right, length);
+            counts.add(account.code);
+            group.demand(account.code == wanted, || {
+                format!("reference {account:?}, {wanted} was planted")
+            });
+        }
+    });
+
+    report.group("wrong files", 10_000, |group| {
+        while group.inputs < 10_000 {
+            let draft = if random.percent(50) {
+                small(random)
+            } else {
+                any(random)
+            };
+            let fault = Fault::any(random, draft.rules.len());
+            let Some(file) = plant(random, &draft, &[fault]) else {
+                continue;
+            };
+            let right = random.below(10) as u8;
+            let length = random.pick(&[0, 10, 200, 40_000]);
+            let (account, _) = compare(group, judge, random, &file, right, length);
+            counts.add(account.code);
+            group.demand(account.code == fault.refusal(), || {
+                format!("reference {account:?}, {fault:?} was planted")
+            });
+        }
+    });
+
+    report.group("each answer was seen", 15, |group| {
+        let answers = [SAFE, 1, 2, 3, 4, 5, 6, 7, 8, 9, 21, 22, 23, 24, UNSAFE];
+        counts.demand(group, &answers, 100);
+    });
+    counts.print("answers (0 is safe, 255 is unsafe)");
+    report.finish();
+}

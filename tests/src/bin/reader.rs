@@ -1,0 +1,340 @@
+//! Compares the verified library's reader with the reference reader.
+
+#[path = "../boundary/check.rs"]
+mod boundary;
+
+use reference::damage::{plant, wrong_table, Fault, RuleFault};
+use reference::file;
+use reference::generate::{any, longest, rule, Draft, ENTER};
+use reference::random::Random;
+use reference::report::{hex, Arguments, Counts, Group, Report};
+use reference::second;
+
+/// The reader under test, and how often each answer was seen.
+struct Reader {
+    check: fn(&[u8]) -> u8,
+    counts: Counts,
+}
+
+impl Reader {
+    /// Compares on one input, and gives the reference's answer.
+    fn compare(&mut self, group: &mut Group, bytes: &[u8]) -> u8 {
+        let before = bytes.to_vec();
+        let wanted = file::check(bytes);
+        let given = (self.check)(bytes);
+        self.counts.add(wanted);
+        group.input(given == wanted, || {
+            format!("answer {given}, reference {wanted}, on {}", hex(bytes))
+        });
+        group.demand(before == bytes, || {
+            format!("bytes changed, file was {}", hex(&before))
+        });
+        wanted
+    }
+
+    /// Also demands that the reference gives the known answer.
+    fn expect(&mut self, group: &mut Group, bytes: &[u8], known: u8) {
+        let wanted = self.compare(group, bytes);
+        group.demand(wanted == known, || {
+            format!("reference {wanted}, {known} was planted, on {}", hex(bytes))
+        });
+    }
+}
+
+/// A draft with at least so many rules.
+fn with_rules(random: &mut Random, least: usize) -> Draft {
+    loop {
+        let draft = any(random);
+        if draft.rules.len() >= least {
+            return draft;
+        }
+    }
+}
+
+fn main() {
+    let arguments = Arguments::read("reader");
+    let mut reader = Reader {
+        check: if arguments.own {
+            second::check
+        } else {
+            boundary::check
+        },
+        counts: Counts::default(),
+    };
+    let mut random = Random::new(arguments.seed);
+    let random = &mut random;
+    let mut report = Report::default();
+
+    report.group("accepted files of all shapes", 60_000, |group| {
+        for _ in 0..60_000 {
+            let file = any(random).file();
+            reader.expect(group, &file, 0);
+        }
+        let file = longest(random).file();
+        group.demand(file.len() == 2442, || format!("{} bytes", file.len()));
+        reader.expect(group, &file, 0);
+        // The shortest: no rules.
+        let file = Draft::empty(1).file();
+        group.demand(file.len() == 1066, || format!("{} bytes", file.len()));
+        reader.expect(group, &file, 0);
+    });
+
+    report.group(
+        "a byte of any value at each structural place",
+        200_000,
+        |group| {
+            for round in 0..5 {
+                let draft = match round {
+                    0 => Draft::empty(3),
+                    1 => longest(random),
+                    _ => with_rules(random, 3),
+                };
+                let mut file = draft.file();
+                let sections = file::kinds_offset(&file);
+                // Header, pairs and kinds, then all rules; the cells follow below.
+                let places = (0..sections + 32).chain(sections + 32 + 1024..file.len());
+                for place in places {
+                    let kept = file[place];
+                    for value in 0..=255 {
+                        file[place] = value;
+                        reader.compare(group, &file);
+                    }
+                    file[place] = kept;
+                }
+            }
+        },
+    );
+
+    report.group("a few values at every place", 100_000, |group| {
+        for round in 0..10 {
+            let draft = match round {
+                0 => Draft::empty(8),
+                1 => longest(random),
+                _ => any(random),
+            };
+            let mut file = draft.file();
+            for place in 0..file.len() {
+                let kept = file[place];
+                let top = 1u8.checked_shl(u32::from(draft.rights)).unwrap_or(255);
+                let values = [0, 1, 2, 3, kept ^ 1, kept ^ 128, top, 255, random.byte()];
+                for value in values {
+                    file[place] = value;
+                    reader.compare(group, &file);
+                }
+                file[place] = kept;
+            }
+        }
+    });
+
+    report.group("cut at every length", 10_000, |group| {
+        for round in 0..8 {
+            let draft = match round {
+                0 => Draft::empty(2),
+                1 => longest(random),
+                _ => any(random),
+            };
+            let file = draft.file();
+            // The rest still lies behind the slice, to tempt a reader.
+            for length in 0..file.len() {
+                let wanted = reader.compare(group, &file[..length]);
+                group.demand(wanted != 0, || format!("cut to {length} accepted"));
+            }
+        }
+    });
+
+    report.group("longer files", 10_000, |group| {
+        for _ in 0..4_000 {
+            let draft = any(random);
+            let mut file = draft.file();
+            let extra = match random.below(4) {
+                0 => 1,
+                1 => random.between(1, 8),
+                2 => random.between(1, 1500),
+                _ => 4096 - file.len(),
+            };
+            let tail = random.bytes(extra);
+            file.extend(&tail);
+            reader.expect(group, &file, 4);
+            // The last pair made to reach the end.
+            let at = 4 * file[1] as usize;
+            let length = u16::from_le_bytes([file[at], file[at + 1]]) as usize + extra;
+            file[at..at + 2].copy_from_slice(&(length as u16).to_le_bytes());
+            reader.expect(group, &file, 5);
+            file.resize(random.between(4097, 9000), 0);
+            reader.expect(group, &file, 1);
+        }
+    });
+
+    report.group("lengths 0, 1, 2 and about 4,096", 2_000, |group| {
+        reader.expect(group, &[], 1);
+        for byte in 0..=255 {
+            reader.expect(group, &[byte], 1);
+            for second in [0, 1, 2, 3, 34, 35, 255] {
+                reader.compare(group, &[byte, second]);
+            }
+        }
+        for _ in 0..200 {
+            for length in [4095, 4096, 4097] {
+                let within = |refusal: u8| if length > 4096 { 1 } else { refusal };
+                let draft = with_rules(random, 1);
+                // Bytes behind the last section.
+                let mut file = draft.file();
+                file.resize(length, 0);
+                reader.expect(group, &file, within(4));
+                // A section as long as the file needs: kinds, cells, a rule.
+                let missing = length - draft.file().len();
+                let mut padded = draft.clone();
+                padded.kinds.resize(32 + missing, 0);
+                reader.expect(group, &padded.file(), within(5));
+                let mut padded = draft.clone();
+                padded.cells.resize(1024 + missing, 0);
+                reader.expect(group, &padded.file(), within(5));
+                let number = random.below(draft.rules.len());
+                let mut padded = draft.clone();
+                let whole = padded.rules[number].len() + missing;
+                padded.rules[number].resize(whole, 0);
+                reader.expect(group, &padded.file(), within(5));
+                padded.rules[number][0] = 0;
+                reader.expect(group, &padded.file(), within(8));
+                // All zero, and random bytes.
+                reader.expect(group, &vec![0; length], within(2));
+                let mut file = random.bytes(length);
+                reader.compare(group, &file);
+                file[0] = 4;
+                file[1] = 2;
+                reader.compare(group, &file);
+            }
+        }
+    });
+
+    report.group("wrong tables of pairs", 60_000, |group| {
+        for _ in 0..60_000 {
+            let draft = any(random);
+            reader.compare(group, &wrong_table(random, &draft));
+        }
+    });
+
+    report.group("one planted fault", 60_000, |group| {
+        while group.inputs < 60_000 {
+            let draft = any(random);
+            let fault = Fault::any(random, draft.rules.len());
+            if let Some(file) = plant(random, &draft, &[fault]) {
+                reader.expect(group, &file, fault.refusal());
+            }
+        }
+    });
+
+    report.group(
+        "two planted faults, the first is reported",
+        100_000,
+        |group| {
+            while group.inputs < 100_000 {
+                let draft = any(random);
+                let rules = draft.rules.len();
+                let faults = [Fault::any(random, rules), Fault::any(random, rules)];
+                if let Some(file) = plant(random, &draft, &faults) {
+                    let first = faults[0].min(faults[1]);
+                    reader.expect(group, &file, first.refusal());
+                }
+            }
+        },
+    );
+
+    report.group("two planted faults in rules", 40_000, |group| {
+        let kinds = [
+            RuleFault::UnderThree,
+            RuleFault::Head,
+            RuleFault::Length,
+            RuleFault::Body,
+        ];
+        while group.inputs < 40_000 {
+            let draft = with_rules(random, 2);
+            let one = random.below(draft.rules.len());
+            let other = match random.below(3) {
+                0 => one,
+                1 => (one + 1) % draft.rules.len(),
+                _ => random.below(draft.rules.len()),
+            };
+            let faults = [
+                Fault::Rule(one, random.pick(&kinds)),
+                Fault::Rule(other, random.pick(&kinds)),
+            ];
+            if let Some(file) = plant(random, &draft, &faults) {
+                let first = faults[0].min(faults[1]);
+                reader.expect(group, &file, first.refusal());
+            }
+        }
+    });
+
+    report.group("random bytes", 40_000, |group| {
+        for round in 0..40_000 {
+            let length = match round % 4 {
+                0 => random.below(12),
+                1 => random.below(200),
+                _ => random.below(4200),
+            };
+            let mut file = random.bytes(length);
+            if round % 2 == 1 && length >= 2 {
+                file[0] = random.between(1, 8) as u8;
+                file[1] = random.between(2, 34) as u8;
+            }
+            reader.compare(group, &file);
+        }
+        // A right table, random sections.
+        for _ in 0..5_000 {
+            let mut draft = any(random);
+            for kind in &mut draft.kinds {
+                *kind = random.below(4) as u8 * random.below(2) as u8;
+            }
+            for section in &mut draft.rules {
+                let length = random.between(0, 40);
+                *section = (0..length).map(|_| random.below(8) as u8).collect();
+            }
+            reader.compare(group, &draft.file());
+        }
+    });
+
+    report.group("the limits of each number, by hand", 30, |group| {
+        let base = |section: Vec<u8>| {
+            let mut draft = Draft::empty(2);
+            draft.kinds[0] = 2;
+            draft.rules.push(section);
+            draft.file()
+        };
+        let enter = [ENTER, 1, 3, 3];
+        let all = |c: usize, m: usize| rule(4, &vec![[1, 3, 3]; c], &vec![enter; m]);
+        reader.expect(group, &base(all(0, 1)), 0);
+        reader.expect(group, &base(all(4, 6)), 0);
+        reader.expect(group, &base(all(5, 6)), 8);
+        reader.expect(group, &base(all(4, 7)), 8);
+        reader.expect(group, &base(all(4, 0)), 8);
+        reader.expect(group, &base(rule(5, &[], &[enter])), 8);
+        reader.expect(group, &base(rule(0, &[], &[[1, 0, 0, 0]])), 8);
+        reader.expect(group, &base(rule(3, &[], &[enter])), 9);
+        reader.expect(group, &base(rule(1, &[], &[[1, 1, 0, 0]])), 0);
+        reader.expect(group, &base(rule(1, &[], &[[1, 2, 0, 0]])), 9);
+        reader.expect(group, &base(rule(1, &[], &[[2, 2, 0, 0]])), 9);
+        reader.expect(group, &base(rule(1, &[], &[[2, 0, 1, 0]])), 9);
+        reader.expect(group, &base(rule(1, &[], &[[2, 0, 0, 1]])), 9);
+        reader.expect(group, &base(rule(1, &[], &[[0, 0, 0, 0]])), 9);
+        reader.expect(group, &base(rule(1, &[], &[[7, 0, 0, 0]])), 9);
+        for kind in 3..=6 {
+            reader.expect(group, &base(rule(4, &[], &[[kind, 0, 3, 0]])), 0);
+            reader.expect(group, &base(rule(4, &[], &[[kind, 0, 4, 0]])), 9);
+            // Right and second blank in range, yet not 0.
+            reader.expect(group, &base(rule(4, &[], &[[kind, 1, 3, 0]])), 9);
+            reader.expect(group, &base(rule(4, &[], &[[kind, 0, 3, 1]])), 9);
+        }
+        reader.expect(group, &base(rule(2, &[[1, 1, 1]], &[[1, 0, 0, 0]])), 0);
+        reader.expect(group, &base(rule(2, &[[2, 1, 1]], &[[1, 0, 0, 0]])), 9);
+        reader.expect(group, &base(rule(2, &[[1, 2, 1]], &[[1, 0, 0, 0]])), 9);
+        reader.expect(group, &base(rule(2, &[[1, 1, 2]], &[[1, 0, 0, 0]])), 9);
+    });
+
+    report.group("each answer was seen", 10, |group| {
+        let answers: Vec<u8> = (0..=9).collect();
+        reader.counts.demand(group, &answers, 100);
+    });
+    reader.counts.print("answers");
+    report.finish();
+}

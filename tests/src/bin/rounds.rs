@@ -1,0 +1,62 @@
+//! Compares the verified library's judge with the reference judge on tables of
+//! up to 30 names whose judging takes many rounds.
+//! Arguments: the seed, and the number of tables (2,000).
+
+#[path = "../boundary/judge.rs"]
+mod boundary;
+
+use reference::generate::chain;
+use reference::judge::UNSAFE;
+use reference::random::Random;
+use reference::report::{Arguments, Report};
+use reference::second;
+use reference::verdict::{compare, needed, Judge};
+
+fn main() {
+    let arguments = Arguments::read("rounds");
+    let judge: Judge = if arguments.own {
+        second::judge
+    } else {
+        boundary::judge
+    };
+    let tables = arguments.number.unwrap_or(2_000);
+    let mut random = Random::new(arguments.seed);
+    let random = &mut random;
+    let mut report = Report::default();
+
+    report.group("tables with many rounds", tables, |group| {
+        let (mut safe, mut by_rounds, mut by_closing) = (0, 0, 0);
+        let (mut rounds, mut most, mut steps) = (0, 0, 0);
+        while group.inputs < tables {
+            let (draft, right) = chain(random);
+            let file = draft.file();
+            let (account, _) = compare(group, judge, random, &file, right, needed(&file));
+            match (account.code, account.closing) {
+                (UNSAFE, true) => by_closing += 1,
+                (UNSAFE, false) => by_rounds += 1,
+                _ => safe += 1,
+            }
+            rounds += account.rounds;
+            most = most.max(account.rounds);
+            steps += account.steps;
+        }
+        println!(
+            "  safe {safe}, unsafe in a round {by_rounds}, unsafe by the closing search {by_closing}"
+        );
+        println!("  {rounds} rounds, at most {most}; {steps} steps");
+        // Of few tables no mix can be asked.
+        if tables >= 200 {
+            for (count, what) in [
+                (safe, "safe"),
+                (by_rounds, "unsafe in a round"),
+                (by_closing, "unsafe by the closing search"),
+            ] {
+                group.demand(10 * count >= tables, || format!("only {count} {what}"));
+            }
+            group.demand(rounds >= 30 * tables, || format!("only {rounds} rounds"));
+            group.demand(most >= 100, || format!("at most {most} rounds"));
+        }
+    });
+
+    report.finish();
+}

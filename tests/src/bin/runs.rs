@@ -1,0 +1,404 @@
+//! Compares the verified library's rule runs and replays with the reference.
+
+#[path = "../boundary/replay.rs"]
+mod boundary_replay;
+#[path = "../boundary/run.rs"]
+mod boundary_run;
+
+use reference::damage::{plant, Fault};
+use reference::file::{self, Contents};
+use reference::generate::*;
+use reference::machine::{numbers, run, run_file, write_matrix};
+use reference::random::Random;
+use reference::replay::{replay, LEAK};
+use reference::report::{hex, Arguments, Counts, Group, Report};
+use reference::second;
+
+/// File, trace and right to the answer and the step.
+type Replay = fn(&[u8], &[u8], u8) -> (u8, u64);
+
+/// The functions under test, and how often each answer was seen.
+struct Library {
+    run: fn(&mut [u8], u8, [u8; 4]) -> u8,
+    replay: Replay,
+    runs: Counts,
+    replays: Counts,
+}
+
+impl Library {
+    /// Compares one rule run over the whole file; the file is left as the
+    /// reference leaves it.
+    fn compare_run(
+        &mut self,
+        group: &mut Group,
+        file: &mut Vec<u8>,
+        rule: u8,
+        actuals: [u8; 4],
+    ) -> u8 {
+        let before = file.clone();
+        let mut other = file.clone();
+        let wanted = run_file(file, rule, actuals);
+        let given = (self.run)(&mut other, rule, actuals);
+        self.runs.add(wanted);
+        group.input(given == wanted && other == *file, || {
+            format!(
+                "answer {given}, reference {wanted}, bytes {}, rule {rule}, actuals {actuals:?}, on {}",
+                if other == *file { "alike" } else { "different" },
+                hex(&before)
+            )
+        });
+        wanted
+    }
+
+    fn compare_replay(
+        &mut self,
+        group: &mut Group,
+        file: &[u8],
+        trace: &[u8],
+        right: u8,
+    ) -> (u8, u64) {
+        let (file_before, trace_before) = (file.to_vec(), trace.to_vec());
+        let wanted = replay(file, trace, right);
+        let given = (self.replay)(file, trace, right);
+        self.replays.add(wanted.0);
+        group.input(given == wanted, || {
+            format!(
+                "answer {given:?}, reference {wanted:?}, right {right}, trace {}, on {}",
+                hex(trace),
+                hex(file)
+            )
+        });
+        group.demand(file == file_before && trace == trace_before, || {
+            format!(
+                "lent bytes changed, right {right}, file was {}",
+                hex(&file_before)
+            )
+        });
+        wanted
+    }
+}
+
+/// A file with a fault that the reader refuses.
+fn wrong_file(random: &mut Random, draft: &Draft) -> Vec<u8> {
+    loop {
+        let fault = Fault::any(random, draft.rules.len());
+        if let Some(file) = plant(random, draft, &[fault]) {
+            assert!(file::check(&file) != 0);
+            return file;
+        }
+    }
+}
+
+/// Lets the file's matrix come to where a run of its rules leads.
+fn settle(random: &mut Random, file: &mut [u8], contents: &mut Contents) {
+    for _ in 0..random.below(30) {
+        let (rule, actuals) = likely_run(random, &contents.rules, &contents.matrix);
+        let done = run(
+            &contents.matrix,
+            &contents.rules,
+            u64::from(rule),
+            numbers(actuals),
+        );
+        if let Ok(done) = done {
+            contents.matrix = done.after;
+        }
+    }
+    write_matrix(file, &contents.matrix);
+}
+
+/// A right and how it was chosen: by chance, the one that leaks last, or one
+/// that does not leak.
+fn choose_right(random: &mut Random, file: &[u8], contents: &Contents, trace: &[u8]) -> u8 {
+    let rights = contents.rights;
+    let by_chance = random.below(rights as usize) as u8;
+    if random.percent(25) {
+        return by_chance;
+    }
+    let leaks: Vec<(u8, u64)> = (0..rights)
+        .filter_map(|right| match replay(file, trace, right) {
+            (LEAK, step) => Some((right, step)),
+            _ => None,
+        })
+        .collect();
+    if random.percent(50) {
+        let last = leaks.iter().max_by_key(|leak| leak.1);
+        return last.map_or(by_chance, |leak| leak.0);
+    }
+    let without: Vec<u8> = (0..rights)
+        .filter(|right| leaks.iter().all(|leak| leak.0 != *right))
+        .collect();
+    if without.is_empty() {
+        by_chance
+    } else {
+        random.pick(&without)
+    }
+}
+
+fn main() {
+    let arguments = Arguments::read("runs");
+    let mut library = Library {
+        run: if arguments.own {
+            second::run
+        } else {
+            boundary_run::run
+        },
+        replay: if arguments.own {
+            second::replay
+        } else {
+            boundary_replay::replay
+        },
+        runs: Counts::default(),
+        replays: Counts::default(),
+    };
+    let mut random = Random::new(arguments.seed);
+    let random = &mut random;
+    let mut report = Report::default();
+
+    report.group(
+        "rule runs, one after the other on a file",
+        120_000,
+        |group| {
+            while group.inputs < 120_000 {
+                let mut file = lively(random).file();
+                for _ in 0..60 {
+                    let contents = file::read(&file).unwrap();
+                    let (rule, actuals) = likely_run(random, &contents.rules, &contents.matrix);
+                    library.compare_run(group, &mut file, rule, actuals);
+                }
+            }
+        },
+    );
+
+    report.group("any rule runs on any files", 60_000, |group| {
+        while group.inputs < 60_000 {
+            let mut file = any(random).file();
+            let contents = file::read(&file).unwrap();
+            for _ in 0..20 {
+                let (rule, actuals) = any_run(random, &contents.rules);
+                library.compare_run(group, &mut file, rule, actuals);
+            }
+        }
+    });
+
+    report.group(
+        "the same name created and destroyed in one rule",
+        40_000,
+        |group| {
+            let mut done = 0;
+            while group.inputs < 40_000 {
+                let mut file = turbulent(random).file();
+                for _ in 0..40 {
+                    let contents = file::read(&file).unwrap();
+                    let rule = random.below(contents.rules.len()) as u8;
+                    let mut actuals = [255; 4];
+                    for actual in actuals
+                        .iter_mut()
+                        .take(contents.rules[rule as usize].blanks)
+                    {
+                        *actual = random.pick(&[0, 1, 29, 30, 31]);
+                    }
+                    if library.compare_run(group, &mut file, rule, actuals) == 0 {
+                        done += 1;
+                    }
+                }
+            }
+            group.demand(done >= 4_000, || format!("only {done} carried out"));
+        },
+    );
+
+    report.group("actuals at and past the limits", 30_000, |group| {
+        while group.inputs < 30_000 {
+            let mut file = lively(random).file();
+            let contents = file::read(&file).unwrap();
+            for _ in 0..10 {
+                // One position of a run that may well be carried out.
+                let (rule, mut actuals) = likely_run(random, &contents.rules, &contents.matrix);
+                actuals[random.below(4)] = random.pick(&[0, 30, 31, 32, 33, 63, 64, 128, 254, 255]);
+                library.compare_run(group, &mut file, rule, actuals);
+            }
+            let (_, actuals) = likely_run(random, &contents.rules, &contents.matrix);
+            for rule in [contents.rules.len() as u8, 32, 33, 253, 254, 255] {
+                library.compare_run(group, &mut file, rule, actuals);
+            }
+        }
+    });
+
+    report.group("an unnamed blank with an absent name", 20_000, |group| {
+        while group.inputs < 20_000 {
+            let mut draft = lively(random);
+            for section in &mut draft.rules {
+                // One blank more than the rule names.
+                section[0] = (section[0] + 1).min(4);
+            }
+            let mut file = draft.file();
+            for _ in 0..20 {
+                let contents = file::read(&file).unwrap();
+                let (rule, mut actuals) = likely_run(random, &contents.rules, &contents.matrix);
+                if random.percent(30) {
+                    let blanks = contents.rules[rule as usize].blanks;
+                    actuals[blanks - 1] = random.below(32) as u8;
+                }
+                library.compare_run(group, &mut file, rule, actuals);
+            }
+        }
+    });
+
+    report.group("rule runs on wrong files", 10_000, |group| {
+        while group.inputs < 10_000 {
+            let draft = lively(random);
+            let contents = file::read(&draft.file()).unwrap();
+            let mut file = wrong_file(random, &draft);
+            let (rule, actuals) = if random.percent(50) {
+                likely_run(random, &contents.rules, &contents.matrix)
+            } else {
+                any_run(random, &contents.rules)
+            };
+            library.compare_run(group, &mut file, rule, actuals);
+        }
+    });
+
+    report.group("P9 and P10", 2, |group| {
+        let mut p9 = Draft::empty(1);
+        p9.kinds[0] = 2;
+        let mut p10 = p9.clone();
+        p9.rules.push(rule(
+            2,
+            &[],
+            &[
+                [ENTER, 0, 0, 1],
+                [DESTROY_SUBJECT, 0, 0, 0],
+                [ENTER, 0, 1, 1],
+            ],
+        ));
+        p10.rules.push(rule(1, &[], &[[CREATE_SUBJECT, 0, 0, 0]]));
+        for (draft, actuals) in [(p9, [0, 0, 255, 255]), (p10, [0, 255, 255, 255])] {
+            let mut file = draft.file();
+            let wanted = library.compare_run(group, &mut file, 0, actuals);
+            group.demand(wanted == 15, || format!("reference {wanted}, not 15"));
+        }
+    });
+
+    report.group("replays of long traces", 30_000, |group| {
+        let mut long = 0;
+        while group.inputs < 30_000 {
+            let mut file = lively(random).file();
+            let mut contents = file::read(&file).unwrap();
+            settle(random, &mut file, &mut contents);
+            let length = random.pick(&[1, 2, 5, 10, 20, 40, 80]);
+            let mut steps = trace(random, &contents, length);
+            // A last step that may be refused, and something behind it.
+            for _ in 0..random.pick(&[0, 0, 1, 2]) {
+                let (rule, actuals) = any_run(random, &contents.rules);
+                steps.push(rule);
+                steps.extend(actuals);
+            }
+            for _ in 0..3 {
+                let right = choose_right(random, &file, &contents, &steps);
+                let answer = library.compare_replay(group, &file, &steps, right);
+                if answer.1 >= 10 {
+                    long += 1;
+                }
+            }
+        }
+        group.demand(long >= 3_000, || format!("only {long} answers past step 9"));
+    });
+
+    report.group("replays with one step altered", 20_000, |group| {
+        while group.inputs < 20_000 {
+            let file = lively(random).file();
+            let contents = file::read(&file).unwrap();
+            let mut steps = trace(random, &contents, 30);
+            if steps.is_empty() {
+                continue;
+            }
+            let right = choose_right(random, &file, &contents, &steps);
+            for _ in 0..4 {
+                let place = random.below(steps.len());
+                let kept = steps[place];
+                steps[place] = random.pick(&[0, 1, 2, 30, 31, 32, 254, 255]);
+                library.compare_replay(group, &file, &steps, right);
+                steps[place] = kept;
+            }
+        }
+    });
+
+    report.group(
+        "delete and enter, enter and delete, in one rule",
+        5_000,
+        |group| {
+            let mut leaks = 0;
+            while group.inputs < 5_000 {
+                let file = turbulent(random).file();
+                let contents = file::read(&file).unwrap();
+                let steps = trace(random, &contents, 6);
+                for right in 0..contents.rights {
+                    let answer = library.compare_replay(group, &file, &steps, right);
+                    leaks += u64::from(answer.0 == LEAK);
+                }
+            }
+            group.demand(leaks >= 500, || format!("only {leaks} leaks"));
+        },
+    );
+
+    report.group("trace lengths, rights and empty traces", 10_000, |group| {
+        while group.inputs < 10_000 {
+            let file = lively(random).file();
+            let contents = file::read(&file).unwrap();
+            let mut steps = trace(random, &contents, 8);
+            let right = random.below(contents.rights as usize) as u8;
+            let answer = library.compare_replay(group, &file, &[], right);
+            group.demand(answer == (0, 0), || format!("empty trace gives {answer:?}"));
+            for past in [contents.rights, 8, 31, 255] {
+                if past >= contents.rights {
+                    let answer = library.compare_replay(group, &file, &steps, past);
+                    group.demand(answer == (21, 0), || format!("right {past}: {answer:?}"));
+                    // 21 comes before 31.
+                    let answer = library.compare_replay(group, &file, &[1, 2, 3], past);
+                    group.demand(answer == (21, 0), || format!("right {past}: {answer:?}"));
+                }
+            }
+            for _ in 0..4 {
+                let byte = random.byte();
+                steps.push(byte);
+                let answer = library.compare_replay(group, &file, &steps, right);
+                let wanted = if steps.len().is_multiple_of(5) {
+                    answer.0
+                } else {
+                    31
+                };
+                group.demand(answer.0 == wanted, || {
+                    format!("{} bytes: {answer:?}", steps.len())
+                });
+            }
+        }
+    });
+
+    report.group("replays on wrong files", 10_000, |group| {
+        while group.inputs < 10_000 {
+            let draft = lively(random);
+            let contents = file::read(&draft.file()).unwrap();
+            let mut steps = trace(random, &contents, 5);
+            let file = wrong_file(random, &draft);
+            // The file's refusal comes before 21 and 31.
+            if random.percent(30) {
+                steps.push(0);
+            }
+            let right = random.below(10) as u8;
+            library.compare_replay(group, &file, &steps, right);
+        }
+    });
+
+    report.group("each answer of a run was seen", 15, |group| {
+        let answers = [0, 1, 2, 3, 4, 5, 6, 7, 8, 9, 11, 12, 13, 14, 15];
+        library.runs.demand(group, &answers, 100);
+    });
+    report.group("each answer of a replay was seen", 18, |group| {
+        let answers = [
+            0, 1, 2, 3, 4, 5, 6, 7, 8, 9, 11, 12, 13, 14, 15, 21, 31, LEAK,
+        ];
+        library.replays.demand(group, &answers, 100);
+    });
+    library.runs.print("answers of runs");
+    library.replays.print("answers of replays (255 is a leak)");
+    report.finish();
+}

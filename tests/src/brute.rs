@@ -1,0 +1,286 @@
+//! The brute search: all states that runs over a small pool of names reach,
+//! with destroys and creation anew, and whether one of those runs leaks.
+//!
+//! It knows nothing of the judge's argument. A refused rule run leaves the
+//! state, so it adds no state and no leak; a leak that needs no name outside
+//! the pool is found.
+
+use crate::file::{Contents, Rule, Step};
+use crate::machine::{AccessMatrix, Bounded, Kind};
+use std::collections::HashSet;
+use std::hash::{BuildHasherDefault, Hasher};
+
+pub const POOL: usize = 8;
+pub const RIGHTS: usize = 2;
+
+/// Bit i of `exists` and `subjects` is the pool's name i; bit 8s + o of
+/// `cells[r]` is right r in the cell of the pool's names s and o.
+#[derive(Clone, Copy, PartialEq, Eq, Hash, Debug)]
+pub struct State {
+    pub exists: u8,
+    pub subjects: u8,
+    pub cells: [u64; RIGHTS],
+}
+
+/// The row and the column of a pool name.
+fn cross(name: usize) -> u64 {
+    (0xFF << (8 * name)) | (0x0101_0101_0101_0101 << name)
+}
+
+impl State {
+    pub fn start(matrix: &Bounded, pool: &[u64]) -> State {
+        assert!(pool.len() <= POOL);
+        let mut state = State {
+            exists: 0,
+            subjects: 0,
+            cells: [0; RIGHTS],
+        };
+        for (i, &name) in pool.iter().enumerate() {
+            match matrix.kind(name) {
+                Kind::Absent => {}
+                Kind::Object => state.exists |= 1 << i,
+                Kind::Subject => {
+                    state.exists |= 1 << i;
+                    state.subjects |= 1 << i;
+                }
+            }
+        }
+        for (s, &subject) in pool.iter().enumerate() {
+            for (o, &object) in pool.iter().enumerate() {
+                for right in 0..RIGHTS {
+                    if matrix.cell(subject, object) >> right & 1 == 1 {
+                        state.cells[right] |= 1 << (8 * s + o);
+                    }
+                }
+            }
+        }
+        state
+    }
+}
+
+#[derive(Clone, Copy)]
+enum Operation {
+    Enter(usize, u64),
+    Delete(usize, u64),
+    CreateSubject(usize),
+    CreateObject(usize),
+    Destroy(usize),
+}
+
+/// A rule of one step with its actuals: what the state must be, and the step.
+/// With one step everything is asked of the same state.
+pub struct Instance {
+    exists: u8,
+    subjects: u8,
+    absent: u8,
+    no_subjects: u8,
+    cells: [u64; RIGHTS],
+    operation: Operation,
+}
+
+pub enum Move {
+    Refused,
+    To(State),
+    /// The right entered into a cell that lacked it, and the state after.
+    Leak(usize, State),
+}
+
+impl Instance {
+    /// `actuals` are positions in the pool.
+    pub fn new(rule: &Rule, actuals: &[usize]) -> Instance {
+        assert!(rule.steps.len() == 1);
+        let mut instance = Instance {
+            exists: 0,
+            subjects: 0,
+            absent: 0,
+            no_subjects: 0,
+            cells: [0; RIGHTS],
+            operation: Operation::Destroy(0),
+        };
+        for &blank in &rule.unnamed {
+            instance.exists |= 1 << actuals[blank];
+        }
+        for condition in &rule.conditions {
+            let (s, o) = (actuals[condition.subject], actuals[condition.object]);
+            instance.subjects |= 1 << s;
+            instance.exists |= 1 << o;
+            instance.cells[condition.right as usize] |= 1 << (8 * s + o);
+        }
+        match rule.steps[0] {
+            Step::Enter {
+                right,
+                subject,
+                object,
+            } => {
+                let (s, o) = (actuals[subject], actuals[object]);
+                instance.subjects |= 1 << s;
+                instance.exists |= 1 << o;
+                instance.operation = Operation::Enter(right as usize, 1 << (8 * s + o));
+            }
+            Step::Delete {
+                right,
+                subject,
+                object,
+            } => {
+                let (s, o) = (actuals[subject], actuals[object]);
+                instance.subjects |= 1 << s;
+                instance.exists |= 1 << o;
+                instance.operation = Operation::Delete(right as usize, 1 << (8 * s + o));
+            }
+            Step::CreateSubject(blank) => {
+                instance.absent |= 1 << actuals[blank];
+                instance.operation = Operation::CreateSubject(actuals[blank]);
+            }
+            Step::CreateObject(blank) => {
+                instance.absent |= 1 << actuals[blank];
+                instance.operation = Operation::CreateObject(actuals[blank]);
+            }
+            Step::DestroySubject(blank) => {
+                instance.subjects |= 1 << actuals[blank];
+                instance.operation = Operation::Destroy(actuals[blank]);
+            }
+            Step::DestroyObject(blank) => {
+                instance.exists |= 1 << actuals[blank];
+                instance.no_subjects |= 1 << actuals[blank];
+                instance.operation = Operation::Destroy(actuals[blank]);
+            }
+        }
+        instance
+    }
+
+    pub fn run(&self, state: &State) -> Move {
+        if state.exists & self.exists != self.exists
+            || state.subjects & self.subjects != self.subjects
+            || state.exists & self.absent != 0
+            || state.subjects & self.no_subjects != 0
+        {
+            return Move::Refused;
+        }
+        for right in 0..RIGHTS {
+            if state.cells[right] & self.cells[right] != self.cells[right] {
+                return Move::Refused;
+            }
+        }
+        let mut after = *state;
+        match self.operation {
+            Operation::Enter(right, cell) => {
+                after.cells[right] |= cell;
+                if state.cells[right] & cell == 0 {
+                    return Move::Leak(right, after);
+                }
+            }
+            Operation::Delete(right, cell) => after.cells[right] &= !cell,
+            Operation::CreateSubject(name) => {
+                after.exists |= 1 << name;
+                after.subjects |= 1 << name;
+                for cells in &mut after.cells {
+                    *cells &= !cross(name);
+                }
+            }
+            Operation::CreateObject(name) => {
+                after.exists |= 1 << name;
+                for cells in &mut after.cells {
+                    *cells &= !cross(name);
+                }
+            }
+            Operation::Destroy(name) => {
+                after.exists &= !(1 << name);
+                after.subjects &= !(1 << name);
+                for cells in &mut after.cells {
+                    *cells &= !cross(name);
+                }
+            }
+        }
+        Move::To(after)
+    }
+}
+
+/// All actuals of all rules over a pool of this size.
+pub fn instances(rules: &[Rule], pool: usize) -> Vec<Instance> {
+    let mut all = Vec::new();
+    for rule in rules {
+        for code in 0..pool.pow(rule.blanks as u32) {
+            let mut rest = code;
+            let mut actuals = [0; 4];
+            for actual in actuals.iter_mut().take(rule.blanks) {
+                *actual = rest % pool;
+                rest /= pool;
+            }
+            all.push(Instance::new(rule, &actuals));
+        }
+    }
+    all
+}
+
+#[derive(Clone, Copy, Debug, PartialEq, Eq)]
+pub enum Found {
+    Leak,
+    /// Every reachable state was seen and no run leaks.
+    NoLeak,
+    /// More states than the limit: nothing is known.
+    TooMany,
+}
+
+/// Searches over the start's names and `further` absent ones.
+/// Also gives the number of states seen.
+pub fn search(contents: &Contents, right: u8, further: usize, limit: usize) -> (Found, usize) {
+    assert!(contents.rights as usize <= RIGHTS);
+    let matrix = &contents.matrix;
+    let mut pool = matrix.names();
+    pool.extend((0..32).filter(|&name| !matrix.exists(name)).take(further));
+    let instances = instances(&contents.rules, pool.len());
+
+    let start = State::start(matrix, &pool);
+    let mut seen: HashSet<State, BuildHasherDefault<Mixer>> = HashSet::default();
+    seen.insert(start);
+    let mut waiting = vec![start];
+    while let Some(state) = waiting.pop() {
+        for instance in &instances {
+            let after = match instance.run(&state) {
+                Move::Refused => continue,
+                Move::Leak(leaked, _) if leaked == right as usize => {
+                    return (Found::Leak, seen.len())
+                }
+                Move::Leak(_, after) => after,
+                Move::To(after) => after,
+            };
+            if seen.insert(after) {
+                if seen.len() > limit {
+                    return (Found::TooMany, seen.len());
+                }
+                waiting.push(after);
+            }
+        }
+    }
+    (Found::NoLeak, seen.len())
+}
+
+/// A quick hash; the standard one takes most of the search's time.
+#[derive(Default)]
+pub struct Mixer {
+    value: u64,
+}
+
+impl Hasher for Mixer {
+    fn finish(&self) -> u64 {
+        self.value ^ (self.value >> 29)
+    }
+
+    fn write(&mut self, bytes: &[u8]) {
+        for &byte in bytes {
+            self.write_u64(u64::from(byte));
+        }
+    }
+
+    fn write_u64(&mut self, word: u64) {
+        self.value = (self.value.rotate_left(23) ^ word).wrapping_mul(0x9E37_79B9_7F4A_7C15);
+    }
+
+    fn write_u8(&mut self, byte: u8) {
+        self.write_u64(u64::from(byte));
+    }
+
+    fn write_usize(&mut self, word: usize) {
+        self.write_u64(word as u64);
+    }
+}

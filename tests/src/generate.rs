@@ -1,0 +1,712 @@
+//! Generators of accepted files, of rule runs and of traces.
+
+use crate::file::{Contents, Rule, Step, CELLS, NAMES};
+use crate::machine::{numbers, run, AccessMatrix, Bounded, Kind};
+use crate::random::Random;
+
+pub const ENTER: u8 = 1;
+pub const DELETE: u8 = 2;
+pub const CREATE_SUBJECT: u8 = 3;
+pub const CREATE_OBJECT: u8 = 4;
+pub const DESTROY_SUBJECT: u8 = 5;
+pub const DESTROY_OBJECT: u8 = 6;
+
+/// A file in the making: its sections, not yet put together.
+#[derive(Clone, Debug)]
+pub struct Draft {
+    pub rights: u8,
+    pub kinds: Vec<u8>,
+    pub cells: Vec<u8>,
+    pub rules: Vec<Vec<u8>>,
+}
+
+impl Draft {
+    pub fn empty(rights: u8) -> Draft {
+        Draft {
+            rights,
+            kinds: vec![0; NAMES],
+            cells: vec![0; CELLS],
+            rules: Vec::new(),
+        }
+    }
+
+    pub fn put(&mut self, subject: usize, object: usize, right: u8) {
+        self.cells[32 * subject + object] |= 1 << right;
+    }
+
+    pub fn file(&self) -> Vec<u8> {
+        let mut sections = vec![self.kinds.clone(), self.cells.clone()];
+        sections.extend(self.rules.iter().cloned());
+        let mut file = vec![self.rights, sections.len() as u8];
+        let mut offset = 2 + 4 * sections.len();
+        for section in &sections {
+            file.extend((offset as u16).to_le_bytes());
+            file.extend((section.len() as u16).to_le_bytes());
+            offset += section.len();
+        }
+        for section in &sections {
+            file.extend(section);
+        }
+        file
+    }
+
+    fn names(&self) -> Vec<usize> {
+        (0..NAMES).filter(|&n| self.kinds[n] > 0).collect()
+    }
+
+    /// Rights by chance in the cells that may hold some.
+    fn scatter(&mut self, random: &mut Random, density: usize) {
+        let names = self.names();
+        for &s in &names {
+            for &o in &names {
+                for right in 0..self.rights {
+                    if self.kinds[s] == 2 && random.percent(density) {
+                        self.put(s, o, right);
+                    }
+                }
+            }
+        }
+    }
+}
+
+/// A rule's section: conditions (right, subject blank, object blank), steps
+/// (kind, right, first blank, second blank).
+pub fn rule(blanks: u8, conditions: &[[u8; 3]], steps: &[[u8; 4]]) -> Vec<u8> {
+    let mut section = vec![blanks, conditions.len() as u8, steps.len() as u8];
+    section.extend(conditions.iter().flatten());
+    section.extend(steps.iter().flatten());
+    section
+}
+
+/// `count` different names; now and then the lowest or the highest ones.
+pub fn some_names(random: &mut Random, count: usize) -> Vec<usize> {
+    let mut names: Vec<usize> = (0..NAMES).collect();
+    match random.below(4) {
+        0 => {}
+        1 => names.reverse(),
+        _ => random.shuffle(&mut names),
+    }
+    names.truncate(count);
+    names
+}
+
+fn matrix(random: &mut Random, rights: u8, names: usize, subjects: usize, density: usize) -> Draft {
+    let mut draft = Draft::empty(rights);
+    for name in some_names(random, names) {
+        draft.kinds[name] = if random.percent(subjects) { 2 } else { 1 };
+    }
+    draft.scatter(random, density);
+    draft
+}
+
+fn step(random: &mut Random, rights: u8, blanks: u8, kind: u8) -> [u8; 4] {
+    let right = random.below(rights as usize) as u8;
+    let first = random.below(blanks as usize) as u8;
+    let second = random.below(blanks as usize) as u8;
+    match kind {
+        ENTER | DELETE => [kind, right, first, second],
+        _ => [kind, 0, first, 0],
+    }
+}
+
+fn condition(random: &mut Random, rights: u8, blanks: u8) -> [u8; 3] {
+    [
+        random.below(rights as usize) as u8,
+        random.below(blanks as usize) as u8,
+        random.below(blanks as usize) as u8,
+    ]
+}
+
+/// Any rule that a file may have.
+pub fn any_rule(random: &mut Random, rights: u8) -> Vec<u8> {
+    let blanks = random.between(1, 4) as u8;
+    let conditions: Vec<_> = (0..random.between(0, 4))
+        .map(|_| condition(random, rights, blanks))
+        .collect();
+    let steps: Vec<_> = (0..random.between(1, 6))
+        .map(|_| {
+            let kind = random.between(1, 6) as u8;
+            step(random, rights, blanks, kind)
+        })
+        .collect();
+    rule(blanks, &conditions, &steps)
+}
+
+/// Any accepted file.
+pub fn any(random: &mut Random) -> Draft {
+    let rights = random.between(1, 8) as u8;
+    let names = match random.below(6) {
+        0 => 0,
+        1 => NAMES,
+        _ => random.between(1, NAMES),
+    };
+    let subjects = random.pick(&[0, 30, 60, 100]);
+    let density = random.pick(&[0, 10, 50, 100]);
+    let mut draft = matrix(random, rights, names, subjects, density);
+    let rules = match random.below(6) {
+        0 => 0,
+        1 => 32,
+        _ => random.between(1, 31),
+    };
+    draft.rules = (0..rules).map(|_| any_rule(random, rights)).collect();
+    draft
+}
+
+/// The longest file there can be: 2,442 bytes.
+pub fn longest(random: &mut Random) -> Draft {
+    let mut draft = matrix(random, 8, NAMES, 100, 100);
+    for _ in 0..32 {
+        let conditions: Vec<_> = (0..4).map(|_| condition(random, 8, 4)).collect();
+        let steps: Vec<_> = (1..=6).map(|kind| step(random, 8, 4, kind)).collect();
+        draft.rules.push(rule(4, &conditions, &steps));
+    }
+    draft
+}
+
+/// A rule of several steps that can often be carried out: it is made along
+/// with a belief of what each blank's name is before each step.
+pub fn plausible_rule(random: &mut Random, rights: u8) -> Vec<u8> {
+    let blanks = random.pick(&[1, 2, 2, 3, 3, 4]) as u8;
+    let mut believed: Vec<Kind> = (0..blanks)
+        .map(|_| match random.below(10) {
+            0..=4 => Kind::Subject,
+            5..=6 => Kind::Object,
+            _ => Kind::Absent,
+        })
+        .collect();
+
+    let mut conditions = Vec::new();
+    for _ in 0..random.pick(&[0, 0, 1, 1, 2, 3, 4]) {
+        let test = condition(random, rights, blanks);
+        let fits = believed[test[1] as usize] == Kind::Subject
+            && believed[test[2] as usize] != Kind::Absent;
+        if fits || random.percent(5) {
+            conditions.push(test);
+        }
+    }
+
+    let mut steps = Vec::new();
+    for _ in 0..random.between(1, 6) {
+        for attempt in 0..12 {
+            let kind = random.between(1, 6) as u8;
+            let chosen = step(random, rights, blanks, kind);
+            let first = chosen[2] as usize;
+            let fits = match kind {
+                ENTER | DELETE => {
+                    believed[first] == Kind::Subject && believed[chosen[3] as usize] != Kind::Absent
+                }
+                CREATE_SUBJECT | CREATE_OBJECT => believed[first] == Kind::Absent,
+                DESTROY_SUBJECT => believed[first] == Kind::Subject,
+                _ => believed[first] == Kind::Object,
+            };
+            if !fits && attempt < 11 && !random.percent(2) {
+                continue;
+            }
+            steps.push(chosen);
+            match kind {
+                ENTER | DELETE => {}
+                CREATE_SUBJECT => believed[first] = Kind::Subject,
+                CREATE_OBJECT => believed[first] = Kind::Object,
+                _ => believed[first] = Kind::Absent,
+            }
+            break;
+        }
+    }
+    rule(blanks, &conditions, &steps)
+}
+
+/// An accepted file whose rules can often be carried out.
+pub fn lively(random: &mut Random) -> Draft {
+    let rights = random.between(1, 8) as u8;
+    let names = random.pick(&[0, 1, 2, 4, 8, 16, 24, 30, 31, 32]);
+    let subjects = random.pick(&[30, 60, 80, 100]);
+    let density = random.pick(&[0, 20, 50, 90]);
+    let mut draft = matrix(random, rights, names, subjects, density);
+    let rules = random.pick(&[1, 2, 4, 8, 16, 32]);
+    draft.rules = (0..rules).map(|_| plausible_rule(random, rights)).collect();
+    draft
+}
+
+/// Rules of many steps on one or two blanks: the same names are created,
+/// filled, destroyed and created again within one rule run.
+pub fn turbulent(random: &mut Random) -> Draft {
+    let rights = random.between(1, 3) as u8;
+    let mut draft = Draft::empty(rights);
+    for name in [0, 1, 29, 30, 31] {
+        draft.kinds[name] = random.below(3) as u8;
+    }
+    draft.scatter(random, 60);
+    for _ in 0..8 {
+        let blanks = random.between(1, 3) as u8;
+        let mut steps = Vec::new();
+        // Per blank a cycle that fits itself: created, destroyed, created.
+        let mut alive: Vec<bool> = (0..blanks).map(|_| random.percent(50)).collect();
+        let mut subject = vec![true; blanks as usize];
+        for _ in 0..random.between(3, 6) {
+            let blank = random.below(blanks as usize);
+            let made = blank as u8;
+            if !alive[blank] {
+                subject[blank] = random.percent(70);
+                let kind = if subject[blank] {
+                    CREATE_SUBJECT
+                } else {
+                    CREATE_OBJECT
+                };
+                steps.push([kind, 0, made, 0]);
+                alive[blank] = true;
+            } else if random.percent(50) {
+                let other = random.below(blanks as usize) as u8;
+                let kind = random.pick(&[ENTER, ENTER, DELETE]);
+                let right = random.below(rights as usize) as u8;
+                steps.push([kind, right, made, other]);
+            } else {
+                let kind = if subject[blank] {
+                    DESTROY_SUBJECT
+                } else {
+                    DESTROY_OBJECT
+                };
+                steps.push([kind, 0, made, 0]);
+                alive[blank] = false;
+            }
+        }
+        draft.rules.push(rule(blanks, &[], &steps));
+    }
+    draft
+}
+
+/// What a blank's name must be before the first step, as far as the rule
+/// alone tells.
+#[derive(Clone, Copy, PartialEq, Eq)]
+enum Want {
+    Anything,
+    Existing,
+    Being(Kind),
+}
+
+fn wants(rule: &Rule) -> [Want; 4] {
+    let mut wants = [Want::Anything; 4];
+    let mut settled = [false; 4];
+    let narrow = |wants: &mut [Want; 4], settled: &[bool; 4], blank: usize, want: Want| {
+        if !settled[blank] && !matches!(wants[blank], Want::Being(_)) {
+            wants[blank] = want;
+        }
+    };
+    for &blank in &rule.unnamed {
+        narrow(&mut wants, &settled, blank, Want::Existing);
+    }
+    for condition in &rule.conditions {
+        narrow(&mut wants, &settled, condition.object, Want::Existing);
+        narrow(
+            &mut wants,
+            &settled,
+            condition.subject,
+            Want::Being(Kind::Subject),
+        );
+    }
+    for step in &rule.steps {
+        match *step {
+            Step::Enter {
+                subject, object, ..
+            }
+            | Step::Delete {
+                subject, object, ..
+            } => {
+                narrow(&mut wants, &settled, object, Want::Existing);
+                narrow(&mut wants, &settled, subject, Want::Being(Kind::Subject));
+            }
+            Step::CreateSubject(blank) | Step::CreateObject(blank) => {
+                narrow(&mut wants, &settled, blank, Want::Being(Kind::Absent));
+                settled[blank] = true;
+            }
+            Step::DestroySubject(blank) => {
+                narrow(&mut wants, &settled, blank, Want::Being(Kind::Subject));
+                settled[blank] = true;
+            }
+            Step::DestroyObject(blank) => {
+                narrow(&mut wants, &settled, blank, Want::Being(Kind::Object));
+                settled[blank] = true;
+            }
+        }
+    }
+    wants
+}
+
+/// A rule run with a fair chance to be carried out.
+pub fn likely_run(random: &mut Random, rules: &[Rule], matrix: &Bounded) -> (u8, [u8; 4]) {
+    let number = random.below(rules.len());
+    let rule = &rules[number];
+    let wants = wants(rule);
+    let mut actuals = [255; 4];
+    for blank in 0..rule.blanks {
+        // Two blanks may get the same name.
+        if blank > 0 && random.percent(15) {
+            actuals[blank] = actuals[random.below(blank)];
+            continue;
+        }
+        let fitting: Vec<u8> = (0..NAMES as u8)
+            .filter(|&name| match wants[blank] {
+                Want::Anything => true,
+                Want::Existing => matrix.exists(u64::from(name)),
+                Want::Being(kind) => matrix.kind(u64::from(name)) == kind,
+            })
+            .collect();
+        actuals[blank] = if fitting.is_empty() || random.percent(3) {
+            random.below(NAMES) as u8
+        } else {
+            random.pick(&fitting)
+        };
+    }
+    (number as u8, actuals)
+}
+
+/// Any rule run at all, near the limits more often than by chance.
+pub fn any_run(random: &mut Random, rules: &[Rule]) -> (u8, [u8; 4]) {
+    let number = match random.below(8) {
+        0 => rules.len() as u8,
+        1 => random.byte(),
+        2 => 255,
+        _ => random.below(rules.len().max(1)) as u8,
+    };
+    let blanks = rules.get(number as usize).map_or(2, |rule| rule.blanks);
+    let mut actuals = [255; 4];
+    for (position, actual) in actuals.iter_mut().enumerate() {
+        if position < blanks {
+            *actual = match random.below(12) {
+                0 => 30,
+                1 => 31,
+                2 => random.pick(&[32, 33, 64, 127, 128, 254]),
+                3 => random.pick(&[255, 32]),
+                _ => random.below(NAMES) as u8,
+            };
+        } else if random.percent(8) {
+            *actual = random.pick(&[0, 1, 31, 32, 254]);
+        }
+    }
+    (number, actuals)
+}
+
+/// A trace that the machine carries out; shorter where no next step is found.
+pub fn trace(random: &mut Random, contents: &Contents, length: usize) -> Vec<u8> {
+    let mut state = contents.matrix.clone();
+    let mut trace = Vec::new();
+    if contents.rules.is_empty() {
+        return trace;
+    }
+    for _ in 0..length {
+        let mut chosen = None;
+        for _ in 0..40 {
+            let (rule, actuals) = likely_run(random, &contents.rules, &state);
+            if let Ok(done) = run(&state, &contents.rules, u64::from(rule), numbers(actuals)) {
+                state = done.after;
+                chosen = Some((rule, actuals));
+                break;
+            }
+        }
+        let Some((rule, actuals)) = chosen else {
+            break;
+        };
+        trace.push(rule);
+        trace.extend(actuals);
+    }
+    trace
+}
+
+/// A table small enough for the brute search: at most 3 names, 2 rights and 4
+/// rules of one step. The right asked for is 0.
+pub fn small(random: &mut Random) -> Draft {
+    let rights = random.pick(&[1, 2, 2, 2, 2, 2]);
+    let names = random.pick(&[0, 1, 1, 2, 2, 2, 3, 3]);
+    let subjects = random.pick(&[50, 80, 100]);
+    let density = random.pick(&[0, 20, 50, 80]);
+    let mut draft = matrix(random, rights, names, subjects, density);
+    let flavour = random.below(4);
+    if flavour == 0 {
+        // The right stands wherever it can, so that rounds seldom enter it.
+        for s in draft.names() {
+            for o in draft.names() {
+                if draft.kinds[s] == 2 && random.percent(85) {
+                    draft.put(s, o, 0);
+                }
+            }
+        }
+    }
+    for number in 0..random.pick(&[1, 2, 3, 3, 4, 4, 4, 4]) {
+        let kind = match (flavour, number) {
+            // A delete and an enter of the right asked for: the closing search.
+            (0, 0) => DELETE,
+            (0, 1) => ENTER,
+            // Creates first, so that later rules meet new names.
+            (1, 0) => random.pick(&[CREATE_SUBJECT, CREATE_OBJECT]),
+            (1, 1) => random.pick(&[CREATE_SUBJECT, CREATE_OBJECT, ENTER]),
+            // Destroys, after which names come anew.
+            (2, 0) => random.pick(&[DESTROY_SUBJECT, DESTROY_OBJECT]),
+            (2, 1) => random.pick(&[CREATE_SUBJECT, CREATE_OBJECT]),
+            _ => random.pick(&[ENTER, ENTER, ENTER, DELETE, 3, 4, 5, 6]),
+        };
+        let right = if (flavour == 0 && number < 2) || random.percent(35) {
+            0
+        } else {
+            rights - 1
+        };
+        draft
+            .rules
+            .push(small_rule(random, rights, kind, right, &draft.cells));
+    }
+    // The order of the rules is part of the judge's answer.
+    random.shuffle(&mut draft.rules);
+    draft
+}
+
+fn small_rule(random: &mut Random, rights: u8, kind: u8, right: u8, cells: &[u8]) -> Vec<u8> {
+    let blanks = random.pick(&[1, 2, 2, 2, 3]);
+    let [_, _, first, second] = step(random, rights, blanks, ENTER);
+    let chosen = match kind {
+        ENTER | DELETE => [kind, right, first, second],
+        _ => [kind, 0, first, 0],
+    };
+    let creates = matches!(kind, CREATE_SUBJECT | CREATE_OBJECT);
+    let count = match (kind, right) {
+        // Enters of the right asked for want some condition mostly.
+        (ENTER, 0) => random.pick(&[0, 1, 1, 1, 2, 2]),
+        _ => random.pick(&[0, 0, 0, 1, 1, 2]),
+    };
+    let mut conditions = Vec::new();
+    for _ in 0..count {
+        let mut test = condition(random, rights, blanks);
+        // A right that the start has somewhere is tested more often.
+        if random.percent(50) {
+            let held = cells.iter().fold(0, |all, cell| all | cell);
+            let standing: Vec<u8> = (0..rights).filter(|r| held >> r & 1 == 1).collect();
+            if !standing.is_empty() {
+                test[0] = random.pick(&standing);
+            }
+        }
+        // A condition on the created blank never holds.
+        if creates && test[1..].contains(&first) && random.percent(90) {
+            continue;
+        }
+        conditions.push(test);
+    }
+    rule(blanks, &conditions, &[chosen])
+}
+
+/// A table of up to 30 names and 32 rules of one step, and the right to ask
+/// for. It is entered by few rules mostly, so that many steps come first.
+pub fn large(random: &mut Random) -> (Draft, u8) {
+    let rights = random.between(1, 8) as u8;
+    let right = random.below(rights as usize) as u8;
+    let names = random.pick(&[0, 1, 3, 6, 10, 15, 20, 25, 28, 29, 30]);
+    let subjects = random.pick(&[20, 50, 80, 100]);
+    let density = random.pick(&[0, 1, 4, 10, 30]);
+    let mut draft = matrix(random, rights, names, subjects, density);
+    let rules = random.pick(&[0, 2, 4, 8, 12, 16, 24, 32, 32]);
+    let rarely = random.percent(80);
+    let mut wide = if random.percent(15) { 2 } else { 0 };
+    for _ in 0..rules {
+        let mut blanks = random.pick(&[1, 2, 2, 2, 3, 3]);
+        if wide > 0 {
+            blanks = 4;
+            wide -= 1;
+        }
+        let kind = random.pick(&[
+            ENTER,
+            ENTER,
+            ENTER,
+            ENTER,
+            ENTER,
+            DELETE,
+            DELETE,
+            CREATE_SUBJECT,
+            CREATE_OBJECT,
+            DESTROY_SUBJECT,
+            DESTROY_OBJECT,
+        ]);
+        let mut chosen = step(random, rights, blanks, kind);
+        if kind == ENTER && rarely && rights > 1 && chosen[1] == right && random.percent(90) {
+            chosen[1] = (right + 1) % rights;
+        }
+        let mut conditions = Vec::new();
+        for _ in 0..random.pick(&[0, 1, 1, 1, 2, 2, 3, 4]) {
+            let test = condition(random, rights, blanks);
+            // A condition on the created blank never holds.
+            let creates = matches!(kind, CREATE_SUBJECT | CREATE_OBJECT);
+            if !creates || !test[1..].contains(&chosen[2]) || random.percent(5) {
+                conditions.push(test);
+            }
+        }
+        draft.rules.push(rule(blanks, &conditions, &[chosen]));
+    }
+    if rights > 2 && random.percent(40) {
+        closing(random, &mut draft, right);
+    }
+    (draft, right)
+}
+
+/// Makes the right enterable and deletable in cells that hold it: the guard of
+/// its enter stands only there. Most cells have just one of the two.
+fn closing(random: &mut Random, draft: &mut Draft, right: u8) {
+    let rights = draft.rights;
+    let guard = (right + 1) % rights;
+    let permit = (right + 2) % rights;
+    let names = draft.names();
+    for &s in &names {
+        for &o in &names {
+            if draft.kinds[s] != 2 {
+                continue;
+            }
+            // The guard is nowhere else than with the right.
+            draft.cells[32 * s + o] &= !(1 << guard);
+            if draft.cells[32 * s + o] >> right & 1 == 1 || random.percent(10) {
+                draft.put(s, o, right);
+                if random.percent(15) {
+                    draft.put(s, o, guard);
+                }
+            }
+        }
+    }
+    // Nothing else enters the right, the guard, or deletes the right.
+    draft.rules.retain(|section| {
+        let step = &section[section.len() - 4..];
+        let enters = step[0] == ENTER && (step[1] == right || step[1] == guard);
+        let deletes = step[0] == DELETE && step[1] == right;
+        !enters && !deletes
+    });
+    draft.rules.truncate(28);
+    let third = random.pick(&[0, 1, 2]);
+    let made = [
+        rule(2, &[[guard, 1, 0]], &[[ENTER, right, 1, 0]]),
+        rule(
+            3,
+            &[[guard, 0, 1], [permit, 0, third]],
+            &[[ENTER, right, 0, 1]],
+        ),
+        rule(3, &[[permit, 2, 1]], &[[DELETE, right, 2, 0]]),
+        rule(2, &[[permit, 0, 1]], &[[DELETE, right, 0, 1]]),
+    ];
+    for section in made {
+        if random.percent(70) {
+            let place = random.below(draft.rules.len() + 1);
+            draft.rules.insert(place, section);
+        }
+    }
+}
+
+/// A table whose judging takes many rounds, and the right to ask for: a token
+/// right walks down a chain of names, one name a round, and hands over to the
+/// next token right at the chain's end. The rules of later tokens come first.
+pub fn chain(random: &mut Random) -> (Draft, u8) {
+    let rights = random.between(4, 8) as u8;
+    let mut draft = Draft::empty(rights);
+    let names = random.pick(&[2, 4, 8, 12, 16, 20, 25, 29, 30, 30]);
+    let mut path = some_names(random, names);
+    match random.below(12) {
+        0 => random.shuffle(&mut path),
+        1 => path.sort(),
+        _ => {
+            path.sort();
+            path.reverse();
+        }
+    }
+    for &name in &path {
+        draft.kinds[name] = 2;
+    }
+    // Some names beside the chain, as long as 30 are not passed.
+    for name in 0..NAMES {
+        if draft.kinds[name] == 0 && draft.names().len() < 30 && random.percent(20) {
+            draft.kinds[name] = random.between(1, 2) as u8;
+        }
+    }
+
+    // The last right links the chain, one marks its end, one is for asking.
+    let link = rights - 1;
+    let end = rights - 2;
+    let seal = rights - 3;
+    let tokens = rights - 3;
+    let last_token = tokens - 1;
+    let (first, last) = (path[0], *path.last().unwrap());
+    for pair in path.windows(2) {
+        draft.put(pair[0], pair[1], link);
+    }
+    draft.put(last, first, end);
+    draft.put(first, first, 0);
+
+    for token in (0..tokens).rev() {
+        // Which blank is slowest changes the order within a round.
+        let (from, to) = random.pick(&[(1, 0), (1, 0), (0, 1)]);
+        let blanks = if random.percent(4) && names <= 12 {
+            3
+        } else {
+            2
+        };
+        if token + 1 < tokens {
+            let conditions = [[token, from, from], [end, from, to]];
+            let steps = [[ENTER, token + 1, to, to]];
+            draft.rules.push(rule(blanks, &conditions, &steps));
+        }
+        let conditions = [[token, from, from], [link, from, to]];
+        let steps = [[ENTER, token, to, to]];
+        draft.rules.push(rule(blanks, &conditions, &steps));
+    }
+
+    // What the last token's arrival at the end allows.
+    let arrival = [[last_token, 0, 0], [end, 0, 1]];
+    match random.below(4) {
+        // The right is entered: late and unsafe.
+        0 => {
+            let place = random.below(draft.rules.len() + 1);
+            draft
+                .rules
+                .insert(place, rule(2, &arrival, &[[ENTER, seal, 1, 0]]));
+        }
+        // Only the closing search leaks; other cells can but be deleted from.
+        1 => {
+            draft.put(last, first, seal);
+            let all = draft.names();
+            for &s in &path {
+                for &o in &all {
+                    if random.percent(3) {
+                        draft.put(s, o, seal);
+                    }
+                }
+            }
+            let delete = rule(2, &[[last_token, 1, 1]], &[[DELETE, seal, 1, 0]]);
+            let enter = rule(2, &arrival, &[[ENTER, seal, 0, 1]]);
+            for section in [delete, enter] {
+                let place = random.below(draft.rules.len() + 1);
+                draft.rules.insert(place, section);
+            }
+        }
+        // A new name joins, and then the right is entered there or is not.
+        2 => {
+            let kind = random.pick(&[CREATE_SUBJECT, CREATE_OBJECT]);
+            let entered = random.pick(&[seal, link]);
+            let conditions = [arrival[0], arrival[1]];
+            let steps = [[ENTER, entered, 1, 2]];
+            draft.rules.insert(0, rule(3, &conditions, &steps));
+            let conditions = [[0, 0, 0], [end, 0, 1]];
+            let steps = [[kind, 0, 2, 0]];
+            draft.rules.insert(0, rule(3, &conditions, &steps));
+        }
+        // Nothing: safe.
+        _ => {}
+    }
+
+    // Rules that do nothing here, or only now and then.
+    while draft.rules.len() < 32 && random.percent(70) {
+        let kind = random.pick(&[DELETE, DELETE, DESTROY_SUBJECT, DESTROY_OBJECT, ENTER]);
+        let blanks = random.between(1, 2) as u8;
+        let mut chosen = step(random, rights, blanks, kind);
+        if kind == ENTER {
+            chosen[1] = random.below(tokens as usize) as u8;
+        }
+        let conditions = [
+            condition(random, rights, blanks),
+            condition(random, rights, blanks),
+        ];
+        let place = random.below(draft.rules.len() + 1);
+        draft
+            .rules
+            .insert(place, rule(blanks, &conditions, &[chosen]));
+    }
+    (draft, seal)
+}

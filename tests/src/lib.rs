@@ -1,0 +1,16 @@
+//! Reference implementation of the access matrix, its house file, its machine
+//! and its leak judge, written from document 01 alone, and what the test
+//! programs need to compare it with the verified library.
+
+pub mod brute;
+pub mod damage;
+pub mod desk;
+pub mod file;
+pub mod generate;
+pub mod judge;
+pub mod machine;
+pub mod random;
+pub mod replay;
+pub mod report;
+pub mod second;
+pub mod verdict;
