@@ -73,7 +73,7 @@ module _ (g : ℕ) (a : List ℕ) (c : Command) (F : Fits g c) (named : (b : ℕ
   sound-all : SoundAll g (valuesOf a) (listed (operationOf c) (c .operations) 0)
   sound-all = sound-listed g (valuesOf a) (operationOf c) (c .operations) 0 (λ j _ l.
       sound-by (getD (c .operation) (4 * j) 0) (getD (c .operation) (4 * j + 1) 0) (getD (c .operation) (4 * j + 2) 0) (getD (c .operation) (4 * j + 3) 0)
-        (F .operation-right j (omega arith)) (named (getD (c .operation) (4 * j + 2) 0) (F .operation-first j (omega arith))))
+      (F .operation-right j (omega arith)) (named (getD (c .operation) (4 * j + 2) 0) (F .operation-first j (omega arith))))
 
 -- ---- a call that is done leaves a state that fits into the file
 module _ (f : List ℕ) (A : Accepted f) (x : Call) where
@@ -93,21 +93,21 @@ module _ (f : List ℕ) (A : Accepted f) (x : Call) where
       by : (C : Command) → Fits (rightsOf f) C → executeCommand bounded (fileState f) (some (meaning C)) (actuals x) ≡ done m' new → Proper (rightsOf f) m'
       by C G =
           gates-elim (λ o. o ≡ done m' new → Proper (rightsOf f) m')
-            (each (actualFits bounded (C .parameters) (actuals x)) parameters 0) (each (spareExists (meaning C) (fileState f) (actuals x)) (C .parameters) 0)
-            (holdAll (fileState f) (actuals x) (meaning C .conditions)) (canDoAll (fileState f) (actuals x) (meaning C .operations))
-            (done (effectAll (fileState f) (actuals x) (meaning C .operations)) (entersAnyNew (fileState f) (actuals x) (meaning C .operations)))
-            (λ n d. absurd (let z : _≡_ {A = ℕ} 0 1 = cc in omega arith))
-            (λ fit _ _ can d.
-              let z : effectAll (fileState f) (actuals x) (meaning C .operations) ≡ m' = cc in
-              subst (Proper (rightsOf f)) z
-                (proper-all (rightsOf f) (meaning C .operations) (fileState f) (actuals x) (file-proper f A)
-                  (sound-all (rightsOf f) (x .a0 ∷ x .a1 ∷ x .a2 ∷ x .a3 ∷ []) C G (λ b l. named C G fit b l)) can))
+          (each (actualFits bounded (C .parameters) (actuals x)) parameters 0) (each (spareExists (meaning C) (fileState f) (actuals x)) (C .parameters) 0)
+          (holdAll (fileState f) (actuals x) (meaning C .conditions)) (canDoAll (fileState f) (actuals x) (meaning C .operations))
+          (done (effectAll (fileState f) (actuals x) (meaning C .operations)) (entersAnyNew (fileState f) (actuals x) (meaning C .operations)))
+          (λ n d. absurd (let z : _≡_ {A = ℕ} 0 1 = cc in omega arith))
+          (λ fit _ _ can d.
+          let z : effectAll (fileState f) (actuals x) (meaning C .operations) ≡ m' = cc in
+          subst (Proper (rightsOf f)) z
+          (proper-all (rightsOf f) (meaning C .operations) (fileState f) (actuals x) (file-proper f A)
+          (sound-all (rightsOf f) (x .a0 ∷ x .a1 ∷ x .a2 ∷ x .a3 ∷ []) C G (λ b l. named C G fit b l)) can))
         where
           named : (C : Command) → Fits (rightsOf f) C → T (each (actualFits bounded (C .parameters) (actuals x)) parameters 0) → (b : ℕ) → b < C .parameters → actuals x b < names
           named C G fit b l =
               let few = G .few-parameters in
               let e : actualFits bounded (C .parameters) (actuals x) b ≡ true =
-                  each-at (actualFits bounded (C .parameters) (actuals x)) parameters 0 (is-true (each (actualFits bounded (C .parameters) (actuals x)) parameters 0) fit) b (omega arith) (omega arith) in
+              each-at (actualFits bounded (C .parameters) (actuals x)) parameters 0 (is-true (each (actualFits bounded (C .parameters) (actuals x)) parameters 0) fit) b (omega arith) (omega arith) in
               let z : ltb b (C .parameters) ≡ true = lt-ltb b (C .parameters) l in
               ltb-true (actuals x b) names (rw z at e)
 
@@ -115,7 +115,7 @@ module _ (f : List ℕ) (A : Accepted f) (x : Call) where
       go (yes l) e =
           let w : 0 + x .command ≡ x .command = omega arith in
           by (code (x .command)) (F .commands-fit (x .command) l)
-            (sym (call (some (meaning (code (x .command)))) (found-listed (λ j. meaning (code j)) (policyOf f .commands) 0 (x .command) l ∙ ap (λ (j : ℕ). some (meaning (code j))) w)) ∙ e)
+          (sym (call (some (meaning (code (x .command)))) (found-listed (λ j. meaning (code j)) (policyOf f .commands) 0 (x .command) l ∙ ap (λ (j : ℕ). some (meaning (code j))) w)) ∙ e)
       go (no l) e =
           absurd (let d : refused 11 ≡ done m' new = sym (call none (none-listed (λ j. meaning (code j)) (policyOf f .commands) 0 (x .command) (omega arith))) ∙ e in let z : _≡_ {A = ℕ} 0 1 = cc in omega arith)
 
@@ -177,29 +177,30 @@ module _ (f : List ℕ) (x : Call) where
   executed : refusal f ≡ 0 → runCode f x ≡ 0 → Executed
   executed z e =
       by-cases z (λ o. codeOf o ≡ 0 → Executed) (λ n w q. absurd (no-zero n w q))
-        (λ m' new w _. let d = M z .done-executes m' new w in
-          (d .0, d .1, subst (λ (s : State). Executes (d .0) (actuals x) (configuration (fileState f)) (configuration s)) (sym (state-done z m' new w)) (d .2)))
-        (sym (code-is z) ∙ e)
+      (λ m' new w _. let d = M z .done-executes m' new w in
+      (d .0, d .1, subst (λ (s : State). Executes (d .0) (actuals x) (configuration (fileState f)) (configuration s)) (sym (state-done z m' new w)) (d .2)))
+      (sym (code-is z) ∙ e)
 
   why : refusal f ≡ 0 → (runCode f x ≡ 0 → ⊥) → (runFile f x ≡ f) × NotExecuted
   why z ne =
       let r : (rewritten f (fileOutcome f x) ≡ f) × NotExecuted =
-          by-cases z (λ o. (codeOf o ≡ 0 → ⊥) → (rewritten f o ≡ f) × NotExecuted)
-            (λ n w _. (refl, M z .refused-exactly .0 (n, w))) (λ m' new w k. absurd (k refl)) (λ q. ne (code-is z ∙ q)) in
+      by-cases z (λ o. (codeOf o ≡ 0 → ⊥) → (rewritten f o ≡ f) × NotExecuted)
+      (λ n w _. (refl, M z .refused-exactly .0 (n, w))) (λ m' new w k. absurd (k refl)) (λ q. ne (code-is z ∙ q)) in
       (file-is z ∙ r .0, r .1)
 
   kept : refusal f ≡ 0 → (refusal (runFile f x) ≡ 0) × (fileSystem (runFile f x) ≡ fileSystem f)
   kept z =
       let r : (refusal (rewritten f (fileOutcome f x)) ≡ 0) × (fileSystem (rewritten f (fileOutcome f x)) ≡ fileSystem f) =
-          by-cases z (λ o. (refusal (rewritten f o) ≡ 0) × (fileSystem (rewritten f o) ≡ fileSystem f)) (λ n w. (z, refl))
-            (λ m' new w. let P = done-proper f (A z) x m' new w in (rewritten-accepted f (A z) m' P, system-written f (A z) m' P)) in
+      by-cases z (λ o. (refusal (rewritten f o) ≡ 0) × (fileSystem (rewritten f o) ≡ fileSystem f)) (λ n w. (z, refl))
+      (λ m' new w. let P = done-proper f (A z) x m' new w in (rewritten-accepted f (A z) m' P, system-written f (A z) m' P)) in
       (ap refusal (file-is z) ∙ r .0, ap fileSystem (file-is z) ∙ r .1)
 
   pub demand2 : Demand2 f x
   demand2 = record {
-      bad-file = bad;
-      done-executes = executed;
-      executes-done = λ z C E D y. let d = M z .executes-done C E D y in
+    bad-file = bad;
+    done-executes = executed;
+    executes-done = λ z C E D y. let d = M z .executes-done C E D y in
         (code-is z ∙ ap codeOf (d .2), subst (λ (s : State). Same (configuration s) E) (sym (state-done z (d .0) (d .1) (d .2))) (d .3));
-      refused-why = why;
-      stays = kept }
+    refused-why = why;
+    stays = kept;
+  }

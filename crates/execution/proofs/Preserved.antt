@@ -34,10 +34,11 @@ sound-listed g a f (suc n) j h = (h j (omega arith) (omega arith), sound-listed 
 module _ (g : ℕ) (m : State) (P : Proper g m) where
   proper-put : (q s o : ℕ) → q < g → T (subjectIn m s) → T (objectIn m o) → Proper g (put m q s o)
   proper-put q s o lq hs ho = record {
-      named = P .named;
-      row = λ s' o' q' t. ⊎-elim (λ e. subst (λ (z : ℕ). T (subjectIn m z)) (sym (at-s s' o' q' e)) hs) (P .row s' o' q') (split s' o' q' t);
-      column = λ s' o' q' t. ⊎-elim (λ e. subst (λ (z : ℕ). T (objectIn m z)) (sym (at-o s' o' q' e)) ho) (P .column s' o' q') (split s' o' q' t);
-      right = λ s' o' q' t. ⊎-elim (λ e. subst (λ (z : ℕ). z < g) (sym (at-q s' o' q' e)) lq) (P .right s' o' q') (split s' o' q' t) }
+    named = P .named;
+    row = λ s' o' q' t. ⊎-elim (λ e. subst (λ (z : ℕ). T (subjectIn m z)) (sym (at-s s' o' q' e)) hs) (P .row s' o' q') (split s' o' q' t);
+    column = λ s' o' q' t. ⊎-elim (λ e. subst (λ (z : ℕ). T (objectIn m z)) (sym (at-o s' o' q' e)) ho) (P .column s' o' q') (split s' o' q' t);
+    right = λ s' o' q' t. ⊎-elim (λ e. subst (λ (z : ℕ). z < g) (sym (at-q s' o' q' e)) lq) (P .right s' o' q') (split s' o' q' t);
+  }
     where
       split : (s' o' q' : ℕ) → T ((sameCell s' o' s o && eqb q' q) || m .cell s' o' q') → T (sameCell s' o' s o && eqb q' q) ⊎ T (m .cell s' o' q')
       split s' o' q' t = or-cases (sameCell s' o' s o && eqb q' q) (m .cell s' o' q') t
@@ -53,20 +54,22 @@ module _ (g : ℕ) (m : State) (P : Proper g m) where
 
   proper-take : (q s o : ℕ) → Proper g (takeOut m q s o)
   proper-take q s o = record {
-      named = P .named;
-      row = λ s' o' q' t. P .row s' o' q' (was s' o' q' t);
-      column = λ s' o' q' t. P .column s' o' q' (was s' o' q' t);
-      right = λ s' o' q' t. P .right s' o' q' (was s' o' q' t) }
+    named = P .named;
+    row = λ s' o' q' t. P .row s' o' q' (was s' o' q' t);
+    column = λ s' o' q' t. P .column s' o' q' (was s' o' q' t);
+    right = λ s' o' q' t. P .right s' o' q' (was s' o' q' t);
+  }
     where
       was : (s' o' q' : ℕ) → T (not (sameCell s' o' s o && eqb q' q) && m .cell s' o' q') → T (m .cell s' o' q')
       was s' o' q' t = and-right (not (sameCell s' o' s o && eqb q' q)) (m .cell s' o' q') t
 
   proper-renew : (n : ℕ) (k : Kind) → (T (isObject k) → n < names) → Proper g (renew m n k)
   proper-renew n k ln = record {
-      named = λ x. name x (eqb x n) (eqb→eq x n);
-      row = λ s o q t. kept isSubject s (eqb s n) (λ e. gone s o q t (or-left (eqb s n) (eqb o n) e)) (P .row s o q (was s o q t));
-      column = λ s o q t. kept isObject o (eqb o n) (λ e. gone s o q t (or-right (eqb s n) (eqb o n) e)) (P .column s o q (was s o q t));
-      right = λ s o q t. P .right s o q (was s o q t) }
+    named = λ x. name x (eqb x n) (eqb→eq x n);
+    row = λ s o q t. kept isSubject s (eqb s n) (λ e. gone s o q t (or-left (eqb s n) (eqb o n) e)) (P .row s o q (was s o q t));
+    column = λ s o q t. kept isObject o (eqb o n) (λ e. gone s o q t (or-right (eqb s n) (eqb o n) e)) (P .column s o q (was s o q t));
+    right = λ s o q t. P .right s o q (was s o q t);
+  }
     where
       name : (x : ℕ) (b : Bool) → (T b → x ≡ n) → T (isObject (pick b k (m .kind x))) → x < names
       name x true e t = subst (λ (z : ℕ). z < names) (sym (e tt)) (ln t)

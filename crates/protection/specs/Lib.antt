@@ -3,4 +3,5 @@ pub mod State
 pub mod Command
 pub mod Execution
 pub mod Leak
+pub mod Judge
 pub mod Paper

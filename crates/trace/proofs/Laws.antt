@@ -51,15 +51,17 @@ module _ (nameable : ℕ → Bool) (S : System) (r : ℕ) (m : State) (x : Call)
 
     last-cons : (y : Call) (xs : List Call) → LeaksLast nameable S r m' (y ∷ xs) → LeaksLast nameable S r m (x ∷ y ∷ xs)
     last-cons y xs L = record {
-        carried = λ t. L .carried (subst T (refused-on (y ∷ xs)) t);
-        leak = subst T (sym (leaks-on (y ∷ xs))) (L .leak);
-        sooner = λ t. L .sooner (subst T (leaks-on (init (y ∷ xs))) t) }
+      carried = λ t. L .carried (subst T (refused-on (y ∷ xs)) t);
+      leak = subst T (sym (leaks-on (y ∷ xs))) (L .leak);
+      sooner = λ t. L .sooner (subst T (leaks-on (init (y ∷ xs))) t);
+    }
 
     last-tail : (y : Call) (xs : List Call) → LeaksLast nameable S r m (x ∷ y ∷ xs) → LeaksLast nameable S r m' (y ∷ xs)
     last-tail y xs L = record {
-        carried = λ t. L .carried (subst T (sym (refused-on (y ∷ xs))) t);
-        leak = subst T (leaks-on (y ∷ xs)) (L .leak);
-        sooner = λ t. L .sooner (subst T (sym (leaks-on (init (y ∷ xs)))) t) }
+      carried = λ t. L .carried (subst T (sym (refused-on (y ∷ xs))) t);
+      leak = subst T (leaks-on (y ∷ xs)) (L .leak);
+      sooner = λ t. L .sooner (subst T (sym (leaks-on (init (y ∷ xs)))) t);
+    }
 
     -- it cannot be the last of a run that leaks there
     last-not : LeaksLast nameable S r m (x ∷ []) → ⊥
@@ -74,9 +76,10 @@ module _ (nameable : ℕ → Bool) (S : System) (r : ℕ) (m : State) (x : Call)
     last-one : LeaksLast nameable S r m (x ∷ [])
     unfolding leaks anyRefused
     last-one = record {
-        carried = λ t. subst (λ (o : Outcome). T (isRefused o || anyRefused nameable S (after o m) [])) e t;
-        leak = subst (λ (o : Outcome). T (isLeak r o || leaks nameable S r (after o m) [])) (sym e) (subst (λ (b : Bool). T (b || leaks nameable S r m' [])) (sym leak) tt);
-        sooner = λ t. t }
+      carried = λ t. subst (λ (o : Outcome). T (isRefused o || anyRefused nameable S (after o m) [])) e t;
+      leak = subst (λ (o : Outcome). T (isLeak r o || leaks nameable S r (after o m) [])) (sym e) (subst (λ (b : Bool). T (b || leaks nameable S r m' [])) (sym leak) tt);
+      sooner = λ t. t;
+    }
 
     -- nothing after it can be the last
     last-more : (y : Call) (xs : List Call) → LeaksLast nameable S r m (x ∷ y ∷ xs) → ⊥
@@ -181,11 +184,11 @@ carries P Q S x h m m' new e = go (getElem? (S .commands) (x .command)) refl e
 
         gates : (c : Bool) → each (actualFits P (C .parameters) (actuals x)) parameters 0 ≡ c
             → gate c 12 (gate (each (spareExists C m (actuals x)) (C .parameters) 0) 13 (gate (holdAll m (actuals x) (C .conditions)) 14 (gate (canDoAll m (actuals x) (C .operations)) 15
-              (done (effectAll m (actuals x) (C .operations)) (entersAnyNew m (actuals x) (C .operations)))))) ≡ done m' new
+            (done (effectAll m (actuals x) (C .operations)) (entersAnyNew m (actuals x) (C .operations)))))) ≡ done m' new
             → executeCommand Q m (some C) (actuals x) ≡ done m' new
         gates true d e =
             let z : each (actualFits Q (C .parameters) (actuals x)) parameters 0 ≡ true =
-                each-all (actualFits Q (C .parameters) (actuals x)) parameters 0 (λ b l k. fits b (each-at (actualFits P (C .parameters) (actuals x)) parameters 0 d b l k)) in
+            each-all (actualFits Q (C .parameters) (actuals x)) parameters 0 (λ b l k. fits b (each-at (actualFits P (C .parameters) (actuals x)) parameters 0 d b l k)) in
             rw z e
         gates false d e = absurd (let z : _≡_ {A = ℕ} 0 1 = cc in omega arith)
 
@@ -198,7 +201,7 @@ module _ (P Q : ℕ → Bool) (S : System) (r : ℕ) where
       go : (o : Outcome) → execute P S m x ≡ o → ((m' : State) → (T (anyRefused P S m' xs) → ⊥) → (anyRefused Q S m' xs ≡ false) × (leaks Q S r m' xs ≡ leaks P S r m' xs))
           → (T (isRefused o || anyRefused P S (after o m) xs) → ⊥)
           → (isRefused (execute Q S m x) || anyRefused Q S (after (execute Q S m x) m) xs ≡ false)
-            × (isLeak r (execute Q S m x) || leaks Q S r (after (execute Q S m x) m) xs ≡ isLeak r (execute P S m x) || leaks P S r (after (execute P S m x) m) xs)
+          × (isLeak r (execute Q S m x) || leaks Q S r (after (execute Q S m x) m) xs ≡ isLeak r (execute P S m x) || leaks P S r (after (execute P S m x) m) xs)
       go (refused n) d ih f = absurd (f tt)
       go (done m' new) d ih f =
           let u : execute Q S m x ≡ done m' new = h .0 m m' new d in
@@ -211,8 +214,8 @@ module _ (P Q : ℕ → Bool) (S : System) (r : ℕ) where
   init-carried (x ∷ []) m t = absurd t
   init-carried (x ∷ y ∷ xs) m t =
       ⊎-elim (λ a. or-left (isRefused (execute P S m x)) (anyRefused P S (after (execute P S m x) m) (y ∷ xs)) a)
-        (λ b. or-right (isRefused (execute P S m x)) (anyRefused P S (after (execute P S m x) m) (y ∷ xs)) (init-carried (y ∷ xs) (after (execute P S m x) m) b))
-        (or-cases (isRefused (execute P S m x)) (anyRefused P S (after (execute P S m x) m) (init (y ∷ xs))) t)
+      (λ b. or-right (isRefused (execute P S m x)) (anyRefused P S (after (execute P S m x) m) (y ∷ xs)) (init-carried (y ∷ xs) (after (execute P S m x) m) b))
+      (or-cases (isRefused (execute P S m x)) (anyRefused P S (after (execute P S m x) m) (init (y ∷ xs))) t)
 
   init-all : (xs : List Call) → CarriesAll P Q S xs → CarriesAll P Q S (init xs)
   init-all [] h = tt
@@ -278,7 +281,7 @@ module _ (f t : List ℕ) (r : ℕ) (R : Replayed f t r) where
       back h =
           replayed-is
           ∙ last-leak (fileSystem f) r (calls t (stepsIn t)) 0 n (fileState f) (subst (λ (k : ℕ). n < k) (sym (length-listed (callAt t) (stepsIn t) 0)) (h .0))
-              (subst (LeaksLast bounded (fileSystem f) r (fileState f)) (sym (first (h .0))) (h .1))
+          (subst (LeaksLast bounded (fileSystem f) r (fileState f)) (sym (first (h .0))) (h .1))
           ∙ ap Leak z
 
   -- the same on the machine over names without number
