@@ -27,13 +27,13 @@ use Rattle.commands.specs.Fits.{Fits}
 use Rattle.commands.specs.declared.Command.{Command}
 use Rattle.commands.specs.declared.Operation.{Operation}
 use Rattle.commands.specs.declared.Operation.the-variants.{Enter, Delete, CreateSubject, CreateObject, DestroySubject, DestroyObject}
-use Rattle.execution.specs.Operations.{Named, Applies, performed}
+use Rattle.operations.specs.Operations.{Named, Applies, performed}
 use Rattle.execution.specs.Conditions.{ConditionApplies, ConditionsApply, SparesApply}
 use Rattle.execution.specs.Runs.{OperationsApply, RanAs, answerOf, refusedExecuted, ExecutedAs}
 use Rattle.execution.specs.declared.Answer.the-variants.{Refused, Done, Leaked}
 use Rattle.execution.specs.declared.Executed.{Executed}
 use Rattle.execution.specs.declared.Ran.{Ran}
-use Rattle.execution.proofs.Applied.{Grants, can-by-kinds, performed-state, performed-canonical}
+use Rattle.operations.proofs.Applied.{Grants, can-by-kinds, performed-state, performed-canonical}
 
 -- ---- the operation that four bytes say
 applies-by : (a : List ℕ) (k q s o : ℕ) → q < rights → Named a s → Named a o → Applies a (operationBy k q s o)

@@ -4,7 +4,7 @@ use mathlib.Core.List.{List}
 use lib.ListN.{getD}
 use Rattle.protection.specs.Limits.{rights, parameters, conditions, operations}
 use Rattle.commands.specs.declared.Command.{Command}
-use Rattle.execution.specs.Operations.{Named}
+use Rattle.operations.specs.Operations.{Named}
 
 -- condition j has a right that a cell can hold, and its parameters have names
 pub record ConditionApplies (a : List ℕ) (c : Command) (j : ℕ) : Type 0 where

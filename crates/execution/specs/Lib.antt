@@ -1,4 +1,2 @@
-pub mod Operations
 pub mod Conditions
 pub mod Runs
-pub mod Files

@@ -15,7 +15,7 @@ use Rattle.matrix.specs.declared.Matrix.{Matrix}
 use Rattle.commands.specs.declared.Command.{Command}
 use Rattle.policy.specs.Contents.{systemOf}
 use Rattle.policy.specs.declared.Policy.{Policy}
-use Rattle.execution.specs.Operations.{Named}
+use Rattle.operations.specs.Operations.{Named}
 use Rattle.execution.specs.declared.Answer.{Answer}
 use Rattle.execution.specs.declared.Answer.the-variants.{Refused, Done, Leaked}
 use Rattle.execution.specs.declared.Executed.{Executed}

@@ -8,7 +8,6 @@ ghost use Rattle.protection.specs.Execution.{bounded, holds, holdAll, spareExis
 ghost use Rattle.matrix.specs.Bytes.{view};
 ghost use Rattle.commands.specs.Contents.{conditionOf, meaning};
 ghost use Rattle.execution.specs.Conditions.{ConditionApplies, ConditionsApply, SparesApply};
-use crate::operations;
 use commands::Command;
 use matrix::Matrix;
 

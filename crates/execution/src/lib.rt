@@ -12,8 +12,6 @@ ghost use Rattle.policy.specs.Fits.{PolicyFits};
 ghost use Rattle.execution.specs.Runs.{OperationsApply, RanAs, refusedExecuted, ExecutedAs, outcomeOf};
 
 pub mod conditions;
-pub mod file;
-pub mod operations;
 
 use commands::Command;
 use matrix::Matrix;

@@ -1,7 +1,7 @@
 // The C boundary: numbers and byte slices, no `requires`. A slice is passed as a pointer and a length.
 ghost use mathlib.Core.Path.{_≡_};
 ghost use Rattle.policy.specs.Refusals.{refusal};
-ghost use Rattle.execution.specs.Files.{FileRun};
+ghost use Rattle.update.specs.Files.{FileRun};
 ghost use Rattle.trace.specs.Replays.{fileReplay};
 ghost use Rattle.exports.specs.Boundary.{ReplayAnswer};
 use trace::Replay;
@@ -20,7 +20,7 @@ pub extern "C" fn access_check(file: &[u8]) -> u8
 pub extern "C" fn access_run(file: &mut [u8], rule: u8, a0: u8, a1: u8, a2: u8, a3: u8) -> u8
     ensures { λ r. ⌜ FileRun (now (file .entry)) (record { command = rule; a0 = a0; a1 = a1; a2 = a2; a3 = a3 }) r (now (file .exit)) ⌝ }
 {
-    execution::file::run(file, rule, a0, a1, a2, a3)
+    update::run(file, rule, a0, a1, a2, a3)
 }
 
 // Replays a trace: 0 no leak, 255 a leak at the step, else the refusal at the step.

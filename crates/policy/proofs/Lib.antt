@@ -3,3 +3,4 @@ pub mod Policies
 pub mod Laws
 pub mod FileState
 pub mod Rewritten
+pub mod ReadPolicy

@@ -1,4 +1,4 @@
-use Rattle.execution.proofs.Stored.{policy-fits-read}
+use Rattle.policy.proofs.ReadPolicy.{policy-fits-read}
 use Rattle.trace.proofs.Replaying.{replay-bad-file, replay-21, replay-31, replay-whole}
 use borrow.Author.Needs.{needs}
 use Rattle.trace.proofs.replay_file.Statement.{statement}

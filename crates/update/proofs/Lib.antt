@@ -1,0 +1,3 @@
+pub mod Stored
+pub mod Preserved
+pub mod Demand2
