@@ -2,3 +2,4 @@ pub mod Model
 pub mod Calls
 pub mod Closed
 pub mod Places
+pub mod Rounds
