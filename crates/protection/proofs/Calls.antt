@@ -6,12 +6,13 @@ use mathlib.Core.List.{List, [], _∷_}
 use mathlib.Core.Option.{Option, none, some}
 use Prim.Native.Nat.{ℕ, _+_, _≤_, _<_}
 use native.Mathlib.Omega.{arith}
-use lib.Dec.{T, eqb, ltb}
+use borrow.Author.Tests.{lt-ltb}
+use lib.Dec.{T, eqb, ltb, ltb→lt}
 use lib.ListN.{getElem?}
 use Rattle.cases.specs.Cases.{pick, each}
 use Rattle.cases.proofs.Bools.{and-left, and-right, and-intro, both}
-use Rattle.cases.proofs.Loops.{each-map}
-use Rattle.protection.specs.Limits.{parameters, unused}
+use Rattle.cases.proofs.Loops.{each-map, each-one}
+use Rattle.protection.specs.Limits.{names, parameters, unused}
 use Rattle.protection.specs.State.{State}
 use Rattle.protection.specs.Command.{Condition, Operation, enter, delete, createSubject, createObject, destroySubject, destroyObject, Command, System, Call, Actuals, actuals}
 use Rattle.protection.specs.Execution.{bounded, unbounded, holdAll, spareExists, actualFits, canDo, effect, entersNew, canDoAll, effectAll, entersAnyNew, Outcome, refused, done, executeCommand, execute}
@@ -69,6 +70,12 @@ carried-unbounded C m a K = record {
     wider : (b c d : Bool) → T (pick b c d) → T (pick b true d)
     wider true c d t = tt
     wider false c d t = t
+
+-- bounded names: a parameter's name is below 32
+pub carried-small : (g : ℕ) (C : Command) → Single g C → (m : State) (a : Actuals) → Carried bounded C m a → (b : ℕ) → b < C .parameters → a b < names
+carried-small g C F m a K b l =
+    let t : T (actualFits bounded (C .parameters) a b) = each-one (actualFits bounded (C .parameters) a) parameters 0 (K .fits) b (omega arith) (omega (arith, F .few)) in
+    ltb→lt (a b) names (rw (lt-ltb b (C .parameters) l) at t)
 
 -- ---- the outcome
 abbrev pub outcome : Command → State → Actuals → Outcome

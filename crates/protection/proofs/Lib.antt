@@ -3,3 +3,4 @@ pub mod Calls
 pub mod Closed
 pub mod Places
 pub mod Rounds
+pub mod Invariant
