@@ -4,3 +4,4 @@ pub mod Closed
 pub mod Places
 pub mod Rounds
 pub mod Invariant
+pub mod Fixpoint

@@ -17,10 +17,11 @@ use Rattle.cases.proofs.Loops.{each-all, each-one}
 use Rattle.protection.specs.Limits.{names, parameters, unused}
 use Rattle.protection.specs.State.{State, objectIn, subjectIn}
 use Rattle.protection.specs.Command.{Condition, Operation, enter, delete, createSubject, createObject, destroySubject, destroyObject, Command, System, Call, Actuals, actuals, inConditions, inOperation, inOperations, named}
-use Rattle.protection.specs.Execution.{bounded, holdAll, spareExists, actualFits}
-use Rattle.protection.specs.Judge.{Choice, weight, namesAt, creates, isCreate, operationIn, choice, choices, placesOf, fourOf, callAt}
+use Rattle.protection.specs.Execution.{bounded, holdAll, spareExists, actualFits, canDo}
+use Rattle.protection.specs.Judge.{Choice, weight, namesAt, creates, isCreate, operationIn, choice, choices, placesOf, fourOf, callAt, allowed}
 use Rattle.protection.specs.Paper.{subject-is-object}
-use Rattle.protection.proofs.Calls.{Single, ready}
+use Rattle.protection.proofs.Calls.{Single, Singles, Has, ready, carried-allowed}
+use Rattle.protection.proofs.Closed.{maps-self, ready-to}
 
 -- ---- mixed radix: each list of names within the choices is at some place
 abbrev pub Within : List Choice → List ℕ → Type 0
@@ -128,3 +129,43 @@ names-small g C F m below a t in-op b l =
       (λ u. ⊎-elim (λ c. below (a b) (conditions-exist m a b (C .conditions) c hold))
         (λ s. in-op b (rw (or-false (inOperation b (operationIn C))) at (rw (F .one-operation) at s))) (or-cases (inConditions b (C .conditions)) (inOperations b (C .operations)) u))
       (below (a b)) (or-cases (named C b) (objectIn m (a b)) (each-one (spareExists C m a) (C .parameters) 0 spare b (omega arith) (omega arith)))
+
+-- ---- a call at any actuals is at a place that the judge visits
+-- the place where command C of S is tried with what a gives its parameters
+pub record Visited (S : System) (m : State) (n : ℕ) (C : Command) (c : Operation) (H : Has S C c) (a : Actuals) : Type 0 where
+  pub place : ℕ
+  pub inside : place < placesOf C n
+  pub agrees : (b : ℕ) → b < C .parameters → actuals (callAt (H .place) C n place) b ≡ a b
+  pub allows : T (canDo m (actuals (callAt (H .place) C n place)) c) → T (allowed S m (callAt (H .place) C n place))
+
+module _ (S : System) (singles : Singles S) (m : State) (below : (x : ℕ) → T (objectIn m x) → x < names) (n : ℕ) (C : Command) (c : Operation) (H : Has S C c) (a : Actuals) where
+  pub visited : T (ready C m a) → ((b : ℕ) → T (inOperation b c) → a b < names) → ((b : ℕ) → T (creates b c) → a b ≡ n) → (T (isCreate c) → n < names) → Visited S m n C c H a
+  visited able small new room =
+      let F = singles (H .place) C (H .found) in
+      let P = placed (S .rights) C F n a
+            (names-small (S .rights) C F m below a able (λ b t. small b (subst (λ (z : Operation). T (inOperation b z)) (H .is) t)))
+            (λ b t. new b (subst (λ (z : Operation). T (creates b z)) (H .is) t)) (λ t. room (subst (λ (z : Operation). T (isCreate z)) (H .is) t)) (H .place) in
+      let x = callAt (H .place) C n (P .place) in
+      record {
+        place = P .place;
+        inside = P .inside;
+        agrees = P .agrees;
+        allows = λ t. carried-allowed S singles m x C (H .found) (record {
+          fits = P .fits;
+          able = ready-to (S .rights) C F m m (λ z. z) (maps-self m) a (actuals x) (P .agrees) able;
+          can = subst (λ (z : Operation). T (canDo m (actuals x) z)) (sym (H .is)) t;
+        });
+      }
+
+  -- an operation on a cell: its two names exist
+  pub visited-cell : (s o : ℕ) → T (ready C m a) → T (subjectIn m (a s) && objectIn m (a o)) → ((b : ℕ) → inOperation b c ≡ eqb b s || eqb b o) → ((b : ℕ) → creates b c ≡ false)
+      → isCreate c ≡ false → Visited S m n C c H a
+  visited-cell s o able exist op-is none-new no-create =
+      visited able (λ b t. below (a b) (⊎-elim (λ z. rw (eqb→eq b s z) (subject-is-object (m .kind (a s)) hs)) (λ z. rw (eqb→eq b o z) ho) (or-cases (eqb b s) (eqb b o) (subst T (op-is b) t))))
+        (λ b t. absurd (subst T (none-new b) t)) (λ t. absurd (subst T no-create t))
+    where
+      hs : T (subjectIn m (a s))
+      hs = search both
+
+      ho : T (objectIn m (a o))
+      ho = search both
