@@ -1,7 +1,9 @@
 pub mod Model
 pub mod Calls
 pub mod Closed
+pub mod First
 pub mod Places
 pub mod Rounds
 pub mod Invariant
 pub mod Fixpoint
+pub mod ClosingSearch

@@ -20,7 +20,7 @@ use Rattle.protection.specs.Command.{Condition, Operation, enter, delete
 use Rattle.protection.specs.Execution.{bounded, holdAll, spareExists, actualFits, canDo}
 use Rattle.protection.specs.Judge.{Choice, weight, namesAt, creates, isCreate, operationIn, choice, choices, placesOf, fourOf, callAt, allowed}
 use Rattle.protection.specs.Paper.{subject-is-object}
-use Rattle.protection.proofs.Calls.{Single, Singles, Has, ready, carried-allowed}
+use Rattle.protection.proofs.Calls.{OperationBelow, Single, Singles, Has, ready, carried-allowed}
 use Rattle.protection.proofs.Closed.{maps-self, ready-to}
 
 -- ---- mixed radix: each list of names within the choices is at some place
@@ -157,15 +157,45 @@ module _ (S : System) (singles : Singles S) (m : State) (below : (x : ℕ) → T
         });
       }
 
-  -- an operation on a cell: its two names exist
-  pub visited-cell : (s o : ℕ) → T (ready C m a) → T (subjectIn m (a s) && objectIn m (a o)) → ((b : ℕ) → inOperation b c ≡ eqb b s || eqb b o) → ((b : ℕ) → creates b c ≡ false)
-      → isCreate c ≡ false → Visited S m n C c H a
-  visited-cell s o able exist op-is none-new no-create =
-      visited able (λ b t. below (a b) (⊎-elim (λ z. rw (eqb→eq b s z) (subject-is-object (m .kind (a s)) hs)) (λ z. rw (eqb→eq b o z) ho) (or-cases (eqb b s) (eqb b o) (subst T (op-is b) t))))
-        (λ b t. absurd (subst T (none-new b) t)) (λ t. absurd (subst T no-create t))
+-- an operation on the cell of its two parameters
+pub record OnCell (c : ℕ → ℕ → Operation) : Type 0 where
+  pub names-both : (s o b : ℕ) → inOperation b (c s o) ≡ eqb b s || eqb b o
+  pub creates-none : (s o b : ℕ) → creates b (c s o) ≡ false
+  pub no-create : (s o : ℕ) → isCreate (c s o) ≡ false
+  pub can-is : (m : State) (a : Actuals) (s o : ℕ) → canDo m a (c s o) ≡ subjectIn m (a s) && objectIn m (a o)
+  pub both-below : (k g s o : ℕ) → OperationBelow k g (c s o) → (s < k) × (o < k)
+
+pub enter-on-cell : (q : ℕ) → OnCell (enter q)
+enter-on-cell q = record { names-both = λ s o b. refl; creates-none = λ s o b. refl; no-create = λ s o. refl; can-is = λ m a s o. refl; both-below = λ k g s o l. (l .1, l .2) }
+
+pub delete-on-cell : (q : ℕ) → OnCell (delete q)
+delete-on-cell q = record { names-both = λ s o b. refl; creates-none = λ s o b. refl; no-create = λ s o. refl; can-is = λ m a s o. refl; both-below = λ k g s o l. (l .1, l .2) }
+
+-- the place of an operation on a cell: its two names exist, and so it is allowed there
+pub record CellVisited (S : System) (m : State) (n : ℕ) (C : Command) (c : Operation) (H : Has S C c) (s o : ℕ) (a : Actuals) : Type 0 where
+  pub place : ℕ
+  pub inside : place < placesOf C n
+  pub at-s : actuals (callAt (H .place) C n place) s ≡ a s
+  pub at-o : actuals (callAt (H .place) C n place) o ≡ a o
+  pub allows : T (allowed S m (callAt (H .place) C n place))
+
+module _ (S : System) (singles : Singles S) (m : State) (below : (x : ℕ) → T (objectIn m x) → x < names) (n : ℕ) (C : Command) (c : ℕ → ℕ → Operation) (cell : OnCell c) (s o : ℕ)
+    (H : Has S C (c s o)) (a : Actuals) where
+  pub visited-cell : T (ready C m a) → T (subjectIn m (a s) && objectIn m (a o)) → CellVisited S m n C (c s o) H s o a
+  visited-cell able exist =
+      let W = visited S singles m below n C (c s o) H a able small (λ b t. absurd (subst T (cell .creates-none s o b) t)) (λ t. absurd (subst T (cell .no-create s o) t)) in
+      let l = cell .both-below (C .parameters) (S .rights) s o (subst (OperationBelow (C .parameters) (S .rights)) (H .is) (singles (H .place) C (H .found) .operation-fits)) in
+      let x = actuals (callAt (H .place) C n (W .place)) in
+      let es : x s ≡ a s = W .agrees s (l .0) in
+      let eo : x o ≡ a o = W .agrees o (l .1) in
+      record { place = W .place; inside = W .inside; at-s = es; at-o = eo; allows = W .allows (rw (cell .can-is m x s o, es, eo) exist) }
     where
       hs : T (subjectIn m (a s))
       hs = search both
 
       ho : T (objectIn m (a o))
       ho = search both
+
+      small : (b : ℕ) → T (inOperation b (c s o)) → a b < names
+      small b t = below (a b)
+          (⊎-elim (λ z. rw (eqb→eq b s z) (subject-is-object (m .kind (a s)) hs)) (λ z. rw (eqb→eq b o z) ho) (or-cases (eqb b s) (eqb b o) (subst T (cell .names-both s o b) t)))
