@@ -7,3 +7,5 @@ pub mod Rounds
 pub mod Invariant
 pub mod Fixpoint
 pub mod ClosingSearch
+pub mod Sums
+pub mod Bound
