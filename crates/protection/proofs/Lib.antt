@@ -9,3 +9,4 @@ pub mod Fixpoint
 pub mod ClosingSearch
 pub mod Sums
 pub mod Bound
+pub mod Safety
