@@ -1,16 +1,16 @@
 -- A call of a command of one operation: it is carried out exactly where its actuals fit, its conditions hold and its operation can be done, with or
 -- without a bound on names. Assumes nothing.
 use mathlib.Core.Path.{_≡_, refl, sym, ap, _∙_, subst}
-use mathlib.Core.Bool.{Bool, true, false, not, _&&_, _||_, or-false}
+use mathlib.Core.Bool.{Bool, true, false, not, _&&_, or-false}
 use mathlib.Core.List.{List, [], _∷_}
 use mathlib.Core.Option.{Option, none, some}
-use Prim.Native.Nat.{ℕ, _+_, _≤_, _<_}
+use Prim.Native.Nat.{ℕ, _≤_, _<_}
 use native.Mathlib.Omega.{arith}
 use borrow.Author.Tests.{lt-ltb}
 use lib.Dec.{T, eqb, ltb, ltb→lt}
 use lib.ListN.{getElem?}
 use Rattle.cases.specs.Cases.{pick, each}
-use Rattle.cases.proofs.Bools.{and-left, and-right, and-intro, both}
+use Rattle.cases.proofs.Bools.{and-left, and-right, and-intro}
 use Rattle.cases.proofs.Loops.{each-map, each-one}
 use Rattle.protection.specs.Limits.{names, parameters, unused}
 use Rattle.protection.specs.State.{State}
@@ -98,12 +98,12 @@ module _ (S : System) (singles : Singles S) (nameable : ℕ → Bool) (m : State
       go (some C) e =
           let F = singles (x .command) C e in
           gates-elim P (each (actualFits nameable (C .parameters) a) parameters 0) (each (spareExists C m a) (C .parameters) 0) (holdAll m a (C .conditions)) (canDoAll m a (C .operations))
-            (done (effectAll m a (C .operations)) (entersAnyNew m a (C .operations))) no-run
-            (λ fit spare hold can. subst P (sym (alone C F)) (run C e (record {
-              fits = fit;
-              able = and-intro (each (spareExists C m a) (C .parameters) 0) (holdAll m a (C .conditions)) spare hold;
-              can = and-left (canDo m a (operationIn C)) true (rw (F .one-operation) at can);
-            })))
+          (done (effectAll m a (C .operations)) (entersAnyNew m a (C .operations))) no-run
+          (λ fit spare hold can. subst P (sym (alone C F)) (run C e (record {
+            fits = fit;
+            able = and-intro (each (spareExists C m a) (C .parameters) 0) (holdAll m a (C .conditions)) spare hold;
+            can = and-left (canDo m a (operationIn C)) true (rw (F .one-operation) at can);
+          })))
 
   module _ (C : Command) (found : getElem? (S .commands) (x .command) ≡ some C) where
     pub call-done : Carried nameable C m a → execute nameable S m x ≡ outcome C m a
@@ -111,10 +111,10 @@ module _ (S : System) (singles : Singles S) (nameable : ℕ → Bool) (m : State
         let F = singles (x .command) C found in
         ap (λ (w : Option Command). executeCommand nameable m w a) found
         ∙ gates-open (each (actualFits nameable (C .parameters) a) parameters 0) (each (spareExists C m a) (C .parameters) 0) (holdAll m a (C .conditions)) (canDoAll m a (C .operations))
-            (done (effectAll m a (C .operations)) (entersAnyNew m a (C .operations))) (K .fits)
-            (and-left (each (spareExists C m a) (C .parameters) 0) (holdAll m a (C .conditions)) (K .able))
-            (and-right (each (spareExists C m a) (C .parameters) 0) (holdAll m a (C .conditions)) (K .able))
-            (rw (F .one-operation) (and-intro (canDo m a (operationIn C)) true (K .can) tt))
+        (done (effectAll m a (C .operations)) (entersAnyNew m a (C .operations))) (K .fits)
+        (and-left (each (spareExists C m a) (C .parameters) 0) (holdAll m a (C .conditions)) (K .able))
+        (and-right (each (spareExists C m a) (C .parameters) 0) (holdAll m a (C .conditions)) (K .able))
+        (rw (F .one-operation) (and-intro (canDo m a (operationIn C)) true (K .can) tt))
         ∙ alone C F
 
     pub call-carried : T (not (isRefused (execute nameable S m x))) → Carried nameable C m a

@@ -1,17 +1,14 @@
 -- A state that is closed under the commands of one operation: no run from the start leaks r. It is free of the judge's order, loops and places.
 -- Assumes nothing.
-use mathlib.Core.Path.{_≡_, refl, sym, ap, _∙_, subst}
+use mathlib.Core.Path.{_≡_, refl, sym, ap, subst}
 use mathlib.Core.Bool.{Bool, true, false, not, _&&_, _||_}
 use mathlib.Core.List.{List, [], _∷_}
 use mathlib.Core.Logic.{_⊎_, inl, inr, ⊎-elim}
-use mathlib.Core.Option.{some}
-use Prim.Native.Nat.{ℕ, _+_, _≤_, _<_}
-use native.Mathlib.Omega.{arith}
+use Prim.Native.Nat.{ℕ, _<_}
 use native.Mathlib.Nat.{zero-add}
 use lib.Dec.{T, eqb, eqb→eq, eqb-refl, T-not, not-T}
-use lib.ListN.{getElem?}
 use Rattle.cases.specs.Cases.{pick, each}
-use Rattle.cases.proofs.Bools.{and-left, and-right, and-intro, both, or-cases, or-right, or-map}
+use Rattle.cases.proofs.Bools.{and-left, and-right, and-intro, both, or-cases, or-right, or-map, is-false}
 use Rattle.cases.proofs.Loops.{each-map}
 use Rattle.protection.specs.State.{Kind, absent, object, subject, isObject, isSubject, State, objectIn, subjectIn}
 use Rattle.protection.specs.Command.{Condition, Operation, enter, delete, createSubject, createObject, destroySubject, destroyObject, Command, System, Call, Actuals, actuals, named}
@@ -19,13 +16,17 @@ use Rattle.protection.specs.Execution.{unbounded, holds, holdAll, spareE
 use Rattle.protection.specs.Leak.{after, isLeak, leaks}
 use Rattle.protection.specs.Judge.{operationIn}
 use Rattle.protection.specs.Paper.{subject-is-object}
-use Rattle.protection.proofs.Calls.{ConditionsBelow, Single, Singles, Has, ready, Carried, call-cases}
+use Rattle.protection.proofs.Calls.{ConditionsBelow, Single, Singles, Has, ready, call-cases}
 
 -- ---- a map of names that carries what holds in m over to M
 pub record Maps (m M : State) (f : ℕ → ℕ) : Type 0 where
   pub subject-to : (x : ℕ) → T (subjectIn m x) → T (subjectIn M (f x))
   pub object-to : (x : ℕ) → T (objectIn m x) → T (objectIn M (f x))
   pub cell-to : (x y q : ℕ) → T (subjectIn m x) → T (objectIn m y) → T (m .cell x y q) → T (M .cell (f x) (f y) q)
+
+-- an existing name is not one that is absent
+pub apart : (m : State) (n : ℕ) → T (not (objectIn m n)) → (x : ℕ) → T (objectIn m x) → eqb x n ≡ false
+apart m n gone x t = is-false (eqb x n) (λ e. T-not (objectIn m n) gone (subst (λ (z : ℕ). T (objectIn m z)) (eqb→eq x n e) t))
 
 -- b is the image of a, as far as a command with k parameters sees it
 module _ (m M : State) (f : ℕ → ℕ) (h : Maps m M f) (a b : Actuals) (k : ℕ) (e : (i : ℕ) → i < k → b i ≡ f (a i)) where
@@ -36,7 +37,7 @@ module _ (m M : State) (f : ℕ → ℕ) (h : Maps m M f) (a b : Actuals) (k : �
   hold-all-to [] l t = tt
   hold-all-to (c ∷ cs) l t =
       and-intro (holds M b c) (holdAll M b cs)
-        (holds-to c (l .0) (l .1) (and-left (holds m a c) (holdAll m a cs) t)) (hold-all-to cs (l .2) (and-right (holds m a c) (holdAll m a cs) t))
+      (holds-to c (l .0) (l .1) (and-left (holds m a c) (holdAll m a cs) t)) (hold-all-to cs (l .2) (and-right (holds m a c) (holdAll m a cs) t))
 
   spare-to : (C : Command) → T (each (spareExists C m a) k 0) → T (each (spareExists C M b) k 0)
   spare-to C = each-map (spareExists C m a) (spareExists C M b) k 0
@@ -46,8 +47,8 @@ pub ready-to : (g : ℕ) (C : Command) → Single g C → (m M : State) (f : ℕ
     → T (ready C m a) → T (ready C M b)
 ready-to g C F m M f h a b e t =
     and-intro (each (spareExists C M b) (C .parameters) 0) (holdAll M b (C .conditions))
-      (spare-to m M f h a b (C .parameters) e C (and-left (each (spareExists C m a) (C .parameters) 0) (holdAll m a (C .conditions)) t))
-      (hold-all-to m M f h a b (C .parameters) e (C .conditions) (F .conditions-fit) (and-right (each (spareExists C m a) (C .parameters) 0) (holdAll m a (C .conditions)) t))
+    (spare-to m M f h a b (C .parameters) e C (and-left (each (spareExists C m a) (C .parameters) 0) (holdAll m a (C .conditions)) t))
+    (hold-all-to m M f h a b (C .parameters) e (C .conditions) (F .conditions-fit) (and-right (each (spareExists C m a) (C .parameters) 0) (holdAll m a (C .conditions)) t))
 
 pub maps-self : (m : State) → Maps m m (λ x. x)
 maps-self m = record { subject-to = λ x t. t; object-to = λ x t. t; cell-to = λ x y q _ _ t. t }
@@ -195,27 +196,10 @@ module _ (S : System) (singles : Singles S) (r : ℕ) (m₀ M : State) (fresh : 
     -- a name that m lacks may stand for any: what the commands ask does not see it
     maps-fresh : (n n' : ℕ) → T (not (objectIn m n)) → Maps m M (λ x. pick (eqb x n) n' (f x))
     maps-fresh n n' gone = record {
-      subject-to = λ x. sub x (eqb x n) (eqb→eq x n);
-      object-to = λ x. obj x (eqb x n) (eqb→eq x n);
-      cell-to = λ x y q. cell x y q (eqb x n) (eqb y n) (eqb→eq x n) (eqb→eq y n);
+      subject-to = λ x t. rw (apart m n gone x (subject-is-object (m .kind x) t)) (σ .maps .subject-to x t);
+      object-to = λ x t. rw (apart m n gone x t) (σ .maps .object-to x t);
+      cell-to = λ x y q s o t. rw (apart m n gone x (subject-is-object (m .kind x) s), apart m n gone y o) (σ .maps .cell-to x y q s o t);
     }
-      where
-        none-at : (x : ℕ) → x ≡ n → T (objectIn m x) → ⊥
-        none-at x e t = T-not (objectIn m n) gone (rw e at t)
-
-        sub : (x : ℕ) (b : Bool) → (T b → x ≡ n) → T (subjectIn m x) → T (subjectIn M (pick b n' (f x)))
-        sub x true e t = absurd (none-at x (e tt) (subject-is-object (m .kind x) t))
-        sub x false e t = σ .maps .subject-to x t
-
-        obj : (x : ℕ) (b : Bool) → (T b → x ≡ n) → T (objectIn m x) → T (objectIn M (pick b n' (f x)))
-        obj x true e t = absurd (none-at x (e tt) t)
-        obj x false e t = σ .maps .object-to x t
-
-        cell : (x y q : ℕ) (b c : Bool) → (T b → x ≡ n) → (T c → y ≡ n) → T (subjectIn m x) → T (objectIn m y) → T (m .cell x y q)
-            → T (M .cell (pick b n' (f x)) (pick c n' (f y)) q)
-        cell x y q true c e d hx hy t = absurd (none-at x (e tt) (subject-is-object (m .kind x) hx))
-        cell x y q false true e d hx hy t = absurd (none-at y (d tt) hy)
-        cell x y q false false e d hx hy t = σ .maps .cell-to x y q hx hy t
 
     -- ---- a leak
     no-leak : (C : Command) (s o : ℕ) → Has S C (enter r s o) → (a : Actuals) → T (ready C m a) → T (canDo m a (enter r s o)) → T (not (m .cell (a s) (a o) r)) → ⊥
@@ -257,7 +241,7 @@ module _ (S : System) (singles : Singles S) (r : ℕ) (m₀ M : State) (fresh : 
           subject-to = σ .maps .subject-to;
           object-to = σ .maps .object-to;
           cell-to = λ x y q hx hy t.
-            and-intro (not (sameCell (f x) (f y) (f (a s)) (f (a o)) && eqb q r)) (M .cell (f x) (f y) q)
+              and-intro (not (sameCell (f x) (f y) (f (a s)) (f (a o)) && eqb q r)) (M .cell (f x) (f y) q)
               (not-T (sameCell (f x) (f y) (f (a s)) (f (a o)) && eqb q r) (other x y q hx hy t)) (σ .maps .cell-to x y q hx hy t);
         }
 
@@ -304,7 +288,7 @@ module _ (S : System) (singles : Singles S) (r : ℕ) (m₀ M : State) (fresh : 
     step : (C : Command) (c : Operation) → Has S C c → (a : Actuals) → T (ready C m a) → T (canDo m a c) → Good (done (effect m a c) (entersNew m a c))
     step C (enter q s o) H a able can = record {
       quiet = λ t.
-        no-leak C s o (rw (eqb→eq q r (and-left (eqb q r) (not (m .cell (a s) (a o) r)) t)) at H) a able can (and-right (eqb q r) (not (m .cell (a s) (a o) r)) t);
+          no-leak C s o (rw (eqb→eq q r (and-left (eqb q r) (not (m .cell (a s) (a o) r)) t)) at H) a able can (and-right (eqb q r) (not (m .cell (a s) (a o) r)) t);
       map = f;
       sim = sim-enter C q s o H a able can;
     }

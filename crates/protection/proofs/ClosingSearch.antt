@@ -1,6 +1,6 @@
 -- The closing search finds a delete and an enter of r where there are such, and what it finds is carried out and leaks at its second step. Assumes nothing.
 use mathlib.Core.Path.{_≡_, refl, sym, ap, _∙_, subst}
-use mathlib.Core.Bool.{Bool, true, false, not, _&&_, _||_}
+use mathlib.Core.Bool.{Bool, true, false, not, _&&_}
 use mathlib.Core.List.{List, [], _∷_, _++_, append-assoc}
 use mathlib.Core.Option.{Option, none, some, Option·none-ne-some}
 use Prim.Native.Nat.{ℕ, zero, suc, _+_, _*_, _/_, _%_, _≤_, _<_}
@@ -8,16 +8,16 @@ use native.Mathlib.Omega.{arith}
 use native.Mathlib.Nat.{add-zero, zero-add}
 use lib.Dec.{T, eqb, ltb, eqb→eq, eqb-refl, ltb→lt, lt→ltb, T-not}
 use lib.ListN.{length, getElem?}
-use Rattle.cases.proofs.Bools.{and-left, and-right, and-intro, both as conjuncts, is-true}
+use Rattle.cases.proofs.Bools.{and-intro, both as conjuncts, is-true}
 use Rattle.protection.specs.Limits.{names}
-use Rattle.protection.specs.State.{State, objectIn, subjectIn}
+use Rattle.protection.specs.State.{State, objectIn}
 use Rattle.protection.specs.Command.{Operation, enter, delete, createSubject, createObject, destroySubject, destroyObject, Command, System, Call, Actuals, actuals}
-use Rattle.protection.specs.Execution.{bounded, unbounded, takeOut, effect, entersNew, Outcome, done, execute}
+use Rattle.protection.specs.Execution.{unbounded, takeOut, effect, entersNew, done, execute}
 use Rattle.protection.specs.Judge.{firstIn, lowestAbsent, operationIn, placesOf, callAt, allowed, deletesAt, entersAt, takes, returns, firstCall, both, pairAt, isEmpty, closing}
-use Rattle.protection.proofs.Calls.{Singles, Has, ready, outcome, carried-unbounded, call-done, allowed-carried}
+use Rattle.protection.proofs.Calls.{Singles, outcome, carried-unbounded, call-done, allowed-carried}
 use Rattle.protection.proofs.Closed.{Reaches}
 use Rattle.protection.proofs.First.{first-passes, first-found}
-use Rattle.protection.proofs.Places.{OnCell, enter-on-cell, delete-on-cell, CellVisited, visited-cell}
+use Rattle.protection.proofs.Places.{OnCell, enter-on-cell, delete-on-cell, visited-cell}
 use Rattle.protection.proofs.Invariant.{Goes, more}
 
 -- ---- the first call with p
@@ -110,7 +110,7 @@ module _ (S : System) (test : Actuals → Operation → Bool) (N : State) where
     hit-done x H =
         let found : getElem? (S .commands) (x .command) ≡ some (H .C) = rw (H .number, zero-add) (H .found) in
         call-done S singles unbounded N x (H .C) found
-          (carried-unbounded (H .C) N (actuals x) (allowed-carried S singles N x (H .C) found (sought-parts (H .C) x (H .passes) .1)))
+        (carried-unbounded (H .C) N (actuals x) (allowed-carried S singles N x (H .C) found (sought-parts (H .C) x (H .passes) .1)))
 
 -- ---- the two tests
 at-cell : (r u v q s o : ℕ) (a : Actuals) → T ((eqb q r && eqb (a s) u) && eqb (a o) v) → (q ≡ r) × (a s ≡ u) × (a o ≡ v)

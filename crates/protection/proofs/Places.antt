@@ -1,22 +1,21 @@
 -- The judge's places reach every choice of actuals that a command can be carried out with, its created parameter taken as the lowest absent name.
 -- Assumes nothing.
 use mathlib.Core.Path.{_≡_, refl, sym, ap, ap₂, _∙_, subst}
-use mathlib.Core.Bool.{Bool, true, false, not, _&&_, _||_, or-false}
+use mathlib.Core.Bool.{Bool, true, false, _&&_, _||_, or-false}
 use mathlib.Core.List.{List, [], _∷_}
-use mathlib.Core.Logic.{_⊎_, inl, inr, ⊎-elim}
+use mathlib.Core.Logic.{⊎-elim}
 use Prim.Native.Nat.{ℕ, zero, suc, _+_, _*_, _-_, _/_, _%_, _≤_, _<_}
 use native.Mathlib.Omega.{arith}
 use native.Mathlib.Nat.{zero-add, mul-le-mul-right, mul-add-div-right, mul-add-mod-self-right, div-eq-of-lt, mod-eq-of-lt}
-use borrow.Author.Tests.{lt-ltb, ltb-true}
-use lib.Dec.{T, eqb, ltb, eqb→eq, lt→ltb, ltb→lt}
-use lib.ListN.{getD}
+use borrow.Author.Tests.{lt-ltb}
+use lib.Dec.{T, eqb, ltb, eqb→eq, ltb→lt}
 use Rattle.cases.specs.Cases.{pick, each, listed}
-use Rattle.cases.proofs.Bools.{and-left, and-right, and-intro, both, or-cases, holds as test-holds}
+use Rattle.cases.proofs.Bools.{and-right, both, or-cases, holds as test-holds}
 use Rattle.cases.proofs.Lists.{getD-listed}
 use Rattle.cases.proofs.Loops.{each-all, each-one}
 use Rattle.protection.specs.Limits.{names, parameters, unused}
 use Rattle.protection.specs.State.{State, objectIn, subjectIn}
-use Rattle.protection.specs.Command.{Condition, Operation, enter, delete, createSubject, createObject, destroySubject, destroyObject, Command, System, Call, Actuals, actuals, inConditions, inOperation, inOperations, named}
+use Rattle.protection.specs.Command.{Condition, Operation, enter, delete, Command, System, Actuals, actuals, inConditions, inOperation, inOperations, named}
 use Rattle.protection.specs.Execution.{bounded, holdAll, spareExists, actualFits, canDo}
 use Rattle.protection.specs.Judge.{Choice, weight, namesAt, creates, isCreate, operationIn, choice, choices, placesOf, fourOf, callAt, allowed}
 use Rattle.protection.specs.Paper.{subject-is-object}
@@ -98,14 +97,14 @@ module _ (g : ℕ) (C : Command) (F : Single g C) (n : ℕ) (a : Actuals) (small
       go : (p : ℕ) × (p < weight (choices C n)) × (namesAt (choices C n) p ≡ listed (padded C a) parameters 0) → Placed i C n a
       go (p, l, e) =
           let at : (b : ℕ) → b < parameters → actuals (callAt i C n p) b ≡ padded C a b =
-                λ b h. ap (λ (z : List ℕ). actuals (fourOf i z) b) e ∙ getD-listed (padded C a) 0 parameters 0 b h ∙ ap (padded C a) (zero-add b) in
+          λ b h. ap (λ (z : List ℕ). actuals (fourOf i z) b) e ∙ getD-listed (padded C a) 0 parameters 0 b h ∙ ap (padded C a) (zero-add b) in
           record {
             place = p;
             inside = in-places p (isCreate (operationIn C) && eqb n names) full l;
             agrees = λ b h. at b (omega (arith, F .few)) ∙ rw (lt-ltb b (C .parameters) h);
             fits = test-holds (each (actualFits bounded (C .parameters) (actuals (callAt i C n p))) parameters 0)
                 (each-all (actualFits bounded (C .parameters) (actuals (callAt i C n p))) parameters 0
-                  (λ b _ h. fit (ltb b (C .parameters)) b (actuals (callAt i C n p) b) (λ t. small b (ltb→lt b (C .parameters) t)) (at b (rw zero-add at h))));
+                (λ b _ h. fit (ltb b (C .parameters)) b (actuals (callAt i C n p) b) (λ t. small b (ltb→lt b (C .parameters) t)) (at b (rw zero-add at h))));
           }
 
 -- ---- which actuals matter: each parameter of a command that is ready has an existing name, or is a parameter of its operation
@@ -116,9 +115,9 @@ conditions-exist m a b (c ∷ cs) t h =
     let ho : T (objectIn m (a (c .object))) = search both in
     let rest : T (holdAll m a cs) = search both in
     ⊎-elim
-      (λ u. ⊎-elim (λ s. rw (eqb→eq b (c .subject) s) (subject-is-object (m .kind (a (c .subject))) hs)) (λ o. rw (eqb→eq b (c .object) o) ho)
-        (or-cases (eqb b (c .subject)) (eqb b (c .object)) u))
-      (λ u. conditions-exist m a b cs u rest) (or-cases (eqb b (c .subject) || eqb b (c .object)) (inConditions b cs) t)
+    (λ u. ⊎-elim (λ s. rw (eqb→eq b (c .subject) s) (subject-is-object (m .kind (a (c .subject))) hs)) (λ o. rw (eqb→eq b (c .object) o) ho)
+    (or-cases (eqb b (c .subject)) (eqb b (c .object)) u))
+    (λ u. conditions-exist m a b cs u rest) (or-cases (eqb b (c .subject) || eqb b (c .object)) (inConditions b cs) t)
 
 pub names-small : (g : ℕ) (C : Command) → Single g C → (m : State) → ((x : ℕ) → T (objectIn m x) → x < names) → (a : Actuals) → T (ready C m a)
     → ((b : ℕ) → T (inOperation b (operationIn C)) → a b < names) → (b : ℕ) → b < C .parameters → a b < names
@@ -126,9 +125,9 @@ names-small g C F m below a t in-op b l =
     let hold : T (holdAll m a (C .conditions)) = search both in
     let spare : T (each (spareExists C m a) (C .parameters) 0) = search both in
     ⊎-elim
-      (λ u. ⊎-elim (λ c. below (a b) (conditions-exist m a b (C .conditions) c hold))
-        (λ s. in-op b (rw (or-false (inOperation b (operationIn C))) at (rw (F .one-operation) at s))) (or-cases (inConditions b (C .conditions)) (inOperations b (C .operations)) u))
-      (below (a b)) (or-cases (named C b) (objectIn m (a b)) (each-one (spareExists C m a) (C .parameters) 0 spare b (omega arith) (omega arith)))
+    (λ u. ⊎-elim (λ c. below (a b) (conditions-exist m a b (C .conditions) c hold))
+    (λ s. in-op b (rw (or-false (inOperation b (operationIn C))) at (rw (F .one-operation) at s))) (or-cases (inConditions b (C .conditions)) (inOperations b (C .operations)) u))
+    (below (a b)) (or-cases (named C b) (objectIn m (a b)) (each-one (spareExists C m a) (C .parameters) 0 spare b (omega arith) (omega arith)))
 
 -- ---- a call at any actuals is at a place that the judge visits
 -- the place where command C of S is tried with what a gives its parameters
@@ -143,8 +142,8 @@ module _ (S : System) (singles : Singles S) (m : State) (below : (x : ℕ) → T
   visited able small new room =
       let F = singles (H .place) C (H .found) in
       let P = placed (S .rights) C F n a
-            (names-small (S .rights) C F m below a able (λ b t. small b (subst (λ (z : Operation). T (inOperation b z)) (H .is) t)))
-            (λ b t. new b (subst (λ (z : Operation). T (creates b z)) (H .is) t)) (λ t. room (subst (λ (z : Operation). T (isCreate z)) (H .is) t)) (H .place) in
+      (names-small (S .rights) C F m below a able (λ b t. small b (subst (λ (z : Operation). T (inOperation b z)) (H .is) t)))
+      (λ b t. new b (subst (λ (z : Operation). T (creates b z)) (H .is) t)) (λ t. room (subst (λ (z : Operation). T (isCreate z)) (H .is) t)) (H .place) in
       let x = callAt (H .place) C n (P .place) in
       record {
         place = P .place;

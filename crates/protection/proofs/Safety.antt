@@ -1,25 +1,25 @@
 -- Demand 3: the judge says unsafe exactly where some run leaks r, and then its steps are a run that leaks at its last step and nowhere sooner.
 -- And the invariant of its rounds, with the bound on its steps. Assumes nothing.
-use mathlib.Core.Path.{_≡_, refl, sym, ap, _∙_, subst}
-use mathlib.Core.Bool.{Bool, true, false, not, _&&_, _||_}
-use mathlib.Core.List.{List, [], _∷_, _++_}
-use mathlib.Core.Logic.{_⊎_, inl, inr, ⊎-elim, _↔_}
+use mathlib.Core.Path.{_≡_, refl}
+use mathlib.Core.Bool.{Bool, true, false, not}
+use mathlib.Core.List.{List, _++_}
+use mathlib.Core.Logic.{_⊎_, ⊎-elim, _↔_}
 use mathlib.Core.Option.{some}
-use Prim.Native.Nat.{ℕ, zero, suc, _+_, _*_, _-_, _<_, _≤_}
+use Prim.Native.Nat.{ℕ, _+_, _-_, _≤_}
 use native.Mathlib.Omega.{arith}
 use lib.Dec.{T, T-not}
 use lib.ListN.{length, getElem?, length-append}
 use Rattle.cases.proofs.Bools.{stable, not-not}
-use Rattle.protection.specs.Limits.{names, startNames}
-use Rattle.protection.specs.State.{State, objectIn}
+use Rattle.protection.specs.Limits.{startNames}
+use Rattle.protection.specs.State.{State}
 use Rattle.protection.specs.Command.{Command, System, Call, actuals}
 use Rattle.protection.specs.Execution.{unbounded}
 use Rattle.protection.specs.Leak.{leaks, LeaksLast}
-use Rattle.protection.specs.Judge.{lowestAbsent, operationIn, callAt, Progress, opened, visit, round, rounds, isEmpty, closing, Verdict, conclude, subjectsOf, namesOf, stepBound, judge}
+use Rattle.protection.specs.Judge.{lowestAbsent, operationIn, callAt, Progress, opened, visit, round, rounds, isEmpty, closing, Verdict, subjectsOf, namesOf, stepBound, judge}
 use Rattle.protection.specs.Paper.{subject-is-object}
-use Rattle.protection.proofs.Calls.{Single, Singles, carried-unbounded, carried-small, call-done}
+use Rattle.protection.proofs.Calls.{Singles, carried-unbounded, carried-small, call-done}
 use Rattle.protection.proofs.Closed.{Closed, closed-safe}
-use Rattle.protection.proofs.Rounds.{visit-cases, Quiet, round-quiet, keep-rounds, rounds-end}
+use Rattle.protection.proofs.Rounds.{visit-cases, round-quiet, keep-rounds, rounds-end}
 use Rattle.protection.proofs.Invariant.{Goes, goes-last, Course, course-opened, course-step}
 use Rattle.protection.proofs.Fixpoint.{closed-enters, closed-creates-subject, closed-creates-object}
 use Rattle.protection.proofs.ClosingSearch.{closing-none, closing-few, closing-sound}
@@ -81,7 +81,7 @@ module _ (S : System) (r : ℕ) (m : State) (K : Taken S m) where
         creates-object = closed-creates-object S (K .singles) r m last (h .course) (h .proper .named) quiet room;
         old = h .course .old (T-not (last .ended) going);
         closing = λ x y t. closing-none S (K .singles) r m (last .state) (h .proper .named) empty x y
-          (K .proper .named x (subject-is-object (m .kind x) (K .proper .row x y r t))) (K .proper .named y (K .proper .column x y r t)) t;
+            (K .proper .named x (subject-is-object (m .kind x) (K .proper .row x y r t))) (K .proper .named y (K .proper .column x y r t)) t;
       }
 
   -- ---- the verdict, by how the rounds ended
