@@ -50,7 +50,11 @@ pub record Has (S : System) (C : Command) (c : Operation) : Type 0 where
   pub found : getElem? (S .commands) place ≡ some C
   pub is : operationIn C ≡ c
 
+pub has-below : (S : System) → Singles S → (C : Command) (c : Operation) → Has S C c → OperationBelow (C .parameters) (S .rights) c
+has-below S singles C c H = subst (OperationBelow (C .parameters) (S .rights)) (H .is) (singles (H .place) C (H .found) .operation-fits)
+
 -- ---- what a call needs to be carried out
+-- its spare parameters exist and its conditions hold
 abbrev pub ready : Command → State → Actuals → Bool
 ready C m a = each (spareExists C m a) (C .parameters) 0 && holdAll m a (C .conditions)
 
@@ -77,7 +81,7 @@ carried-small g C F m a K b l =
     let t : T (actualFits bounded (C .parameters) a b) = each-one (actualFits bounded (C .parameters) a) parameters 0 (K .fits) b (omega arith) (omega (arith, F .few)) in
     ltb→lt (a b) names (rw (lt-ltb b (C .parameters) l) at t)
 
--- ---- the outcome
+-- ---- what it comes to
 abbrev pub outcome : Command → State → Actuals → Outcome
 outcome C m a = done (effect m a (operationIn C)) (entersNew m a (operationIn C))
 

@@ -54,7 +54,7 @@ pub maps-self : (m : State) → Maps m m (λ x. x)
 maps-self m = record { subject-to = λ x t. t; object-to = λ x t. t; cell-to = λ x y q _ _ t. t }
 
 -- ---- what a closed state is
--- a call of S, allowed in m, whose operation c is on the cell (u, v)
+-- a call of a command of S that can be carried out in m, and whose operation c is on the cell (u, v)
 pub record Reaches (S : System) (m : State) (c : ℕ → ℕ → Operation) (u v : ℕ) : Type 0 where
   pub C : Command
   pub s : ℕ
@@ -265,18 +265,18 @@ module _ (S : System) (singles : Singles S) (r : ℕ) (m₀ M : State) (fresh : 
       sim : Sim (after o m) map
 
     -- the created name n stands for the newcomer that M has, since the command is ready in M with the name that the rounds try
-    create : (n : ℕ) (k : Kind) → T (not (objectIn m n)) → (new : ℕ → Bool) → new r ≡ false → (C : Command) (c : Operation) → Has S C c → (a : Actuals) → T (ready C m a)
-        → (T (ready C M (λ b. pick (eqb (a b) n) fresh (f (a b)))) → Newcomer m₀ M k) → Good (done (renew m n k) new)
-    create n k gone new never C c H a able newcomer =
+    create : (n : ℕ) (k : Kind) → T (not (objectIn m n)) → (C : Command) (c : Operation) → Has S C c → (a : Actuals) → T (ready C m a)
+        → (T (ready C M (λ b. pick (eqb (a b) n) fresh (f (a b)))) → Newcomer m₀ M k) → Good (done (renew m n k) (λ q. false))
+    create n k gone C c H a able newcomer =
         let N = newcomer (image m (λ x. pick (eqb x n) fresh (f x)) (maps-fresh n fresh gone) C c H a able) in
         record {
-          quiet = λ t. subst T never t;
+          quiet = λ t. t;
           map = λ x. pick (eqb x n) (N .name) (f x);
           sim = sim-renew n (N .name) k (N .subject-too) (λ _. N .exists) (λ _. N .fresh);
         }
 
-    destroy : (n : ℕ) (new : ℕ → Bool) → new r ≡ false → Good (done (renew m n absent) new)
-    destroy n new never = record { quiet = λ t. subst T never t; map = λ x. pick (eqb x n) 0 (f x); sim = sim-renew n 0 absent (λ t. absurd t) (λ t. absurd t) (λ t. absurd t) }
+    destroy : (n : ℕ) → Good (done (renew m n absent) (λ q. false))
+    destroy n = record { quiet = λ t. t; map = λ x. pick (eqb x n) 0 (f x); sim = sim-renew n 0 absent (λ t. absurd t) (λ t. absurd t) (λ t. absurd t) }
 
     at-fresh : (n z : ℕ) → pick (eqb n n) fresh z ≡ fresh
     at-fresh n z = go (eqb n n) (eqb-refl n)
@@ -294,11 +294,11 @@ module _ (S : System) (singles : Singles S) (r : ℕ) (m₀ M : State) (fresh : 
     }
     step C (delete q s o) H a able can = record { quiet = λ t. t; map = f; sim = sim-delete C q s o H a able can }
     step C (createSubject s) H a able can =
-        create (a s) subject can (λ q. false) refl C (createSubject s) H a able (λ t. K .creates-subject C s H (λ b. pick (eqb (a b) (a s)) fresh (f (a b))) t (at-fresh (a s) (f (a s))))
+        create (a s) subject can C (createSubject s) H a able (λ t. K .creates-subject C s H (λ b. pick (eqb (a b) (a s)) fresh (f (a b))) t (at-fresh (a s) (f (a s))))
     step C (createObject o) H a able can =
-        create (a o) object can (λ q. false) refl C (createObject o) H a able (λ t. K .creates-object C o H (λ b. pick (eqb (a b) (a o)) fresh (f (a b))) t (at-fresh (a o) (f (a o))))
-    step C (destroySubject s) H a able can = destroy (a s) (λ q. false) refl
-    step C (destroyObject o) H a able can = destroy (a o) (λ q. false) refl
+        create (a o) object can C (createObject o) H a able (λ t. K .creates-object C o H (λ b. pick (eqb (a b) (a o)) fresh (f (a b))) t (at-fresh (a o) (f (a o))))
+    step C (destroySubject s) H a able can = destroy (a s)
+    step C (destroyObject o) H a able can = destroy (a o)
 
     one-call : (x : Call) → Good (execute unbounded S m x)
     one-call x = call-cases S singles unbounded m x Good (λ n. record { quiet = λ t. t; map = f; sim = σ })

@@ -19,7 +19,7 @@ use Rattle.protection.specs.Command.{Condition, Operation, enter, delete
 use Rattle.protection.specs.Execution.{bounded, holdAll, spareExists, actualFits, canDo}
 use Rattle.protection.specs.Judge.{Choice, weight, namesAt, creates, isCreate, operationIn, choice, choices, placesOf, fourOf, callAt, allowed}
 use Rattle.protection.specs.Paper.{subject-is-object}
-use Rattle.protection.proofs.Calls.{OperationBelow, Single, Singles, Has, ready, carried-allowed}
+use Rattle.protection.proofs.Calls.{OperationBelow, Single, Singles, Has, has-below, ready, carried-allowed}
 use Rattle.protection.proofs.Closed.{maps-self, ready-to}
 
 -- ---- mixed radix: each list of names within the choices is at some place
@@ -183,7 +183,7 @@ module _ (S : System) (singles : Singles S) (m : State) (below : (x : ℕ) → T
   pub visited-cell : T (ready C m a) → T (subjectIn m (a s) && objectIn m (a o)) → CellVisited S m n C (c s o) H s o a
   visited-cell able exist =
       let W = visited S singles m below n C (c s o) H a able small (λ b t. absurd (subst T (cell .creates-none s o b) t)) (λ t. absurd (subst T (cell .no-create s o) t)) in
-      let l = cell .both-below (C .parameters) (S .rights) s o (subst (OperationBelow (C .parameters) (S .rights)) (H .is) (singles (H .place) C (H .found) .operation-fits)) in
+      let l = cell .both-below (C .parameters) (S .rights) s o (has-below S singles C (c s o) H) in
       let x = actuals (callAt (H .place) C n (W .place)) in
       let es : x s ≡ a s = W .agrees s (l .0) in
       let eo : x o ≡ a o = W .agrees o (l .1) in

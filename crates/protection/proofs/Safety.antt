@@ -44,7 +44,7 @@ module _ (S : System) (r : ℕ) (m : State) (K : Taken S m) where
   pub kept-opened : Kept S r m (opened m)
   kept-opened = record { course = course-opened S r m; proper = K .proper; tally = tally-opened (S .rights) m }
 
-  -- at any place, whatever the name n that the rule's creates are tried with
+  -- at any place of a command of S, whatever the name n that its create is tried with
   pub kept-visit : (i : ℕ) (C : Command) → getElem? (S .commands) i ≡ some C → (n p : ℕ) (j : Progress) → Kept S r m j → Kept S r m (visit S r i C n p j)
   kept-visit i C found n p j h = visit-cases S (K .singles) r i C found n p j (Kept S r m) (λ going want G.
       let F = K .singles i C found in
