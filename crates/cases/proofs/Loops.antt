@@ -10,6 +10,7 @@ use native.Mathlib.Omega.{arith}
 use borrow.Author.Tests.{not-true, not-false}
 use lib.Dec.{T}
 use Rattle.cases.specs.Cases.{pick, turns, each}
+use Rattle.cases.proofs.Bools.{is-true, holds as test-holds}
 
 left : (n j : ℕ) → j < n → n - j ≡ suc (n - (j + 1))
 left n j h = omega arith
@@ -93,3 +94,18 @@ turns-count P f zero j h s p = let z : j + 0 ≡ j = omega arith in rw z p
 turns-count P f (suc n) j h s p =
     let z : j + suc n ≡ suc j + n = omega arith in
     rw z (turns-count P f n (suc j) (λ i t l k. h i t (omega arith) (omega arith)) (f j s) (h j s (omega arith) (omega arith) p))
+
+-- the same of tests as types: where one test implies another at all n numbers
+pub each-map : (p q : ℕ → Bool) (n j : ℕ) → ((i : ℕ) → j ≤ i → i < j + n → T (p i) → T (q i)) → T (each p n j) → T (each q n j)
+unfolding each
+each-map p q zero j h t = tt
+each-map p q (suc n) j h t = go (p j) (q j) (h j (omega arith) (omega arith)) (each-map p q n (suc j) (λ i l k. h i (omega arith) (omega arith))) t
+  where
+    go : (b c : Bool) → (T b → T c) → (T (each p n (suc j)) → T (each q n (suc j))) → T (pick b (each p n (suc j)) false) → T (pick c (each q n (suc j)) false)
+    go true true f ih t = ih t
+    go true false f ih t = f tt
+    go false c f ih t = absurd t
+
+-- and at one of them
+pub each-one : (p : ℕ → Bool) (n j : ℕ) → T (each p n j) → (i : ℕ) → j ≤ i → i < j + n → T (p i)
+each-one p n j t i l h = test-holds (p i) (each-at p n j (is-true (each p n j) t) i l h)
