@@ -5,3 +5,7 @@ pub mod Firsts
 pub mod Trying
 pub mod Rounding
 pub mod ClosingCalls
+pub mod Counts
+pub mod Buffers
+pub mod Concluding
+pub mod Demand3
