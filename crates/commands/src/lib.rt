@@ -2,6 +2,7 @@
 ghost use mathlib.Core.Path.{_≡_};
 ghost use Prim.Native.Nat.{_+_, _*_, _≤_, _<_};
 ghost use lib.ListN.{length, take, drop};
+ghost use Rattle.protection.specs.Limits.{conditions, operations};
 ghost use Rattle.cases.specs.Cases.{each, listed};
 ghost use mathlib.Core.Bool.{_||_};
 ghost use Rattle.protection.specs.Command.{inConditions, inOperation, inOperations, named};
@@ -60,7 +61,7 @@ fn condition_fits(part: &[u8], g: u8, at: usize) -> bool
 }
 
 fn conditions_fit(part: &[u8], g: u8, count: usize) -> bool
-    requires { ⌜ (count ≤ 4) × (3 + 3 * count ≤ length (now part)) ⌝ }
+    requires { ⌜ (count ≤ conditions) × (3 + 3 * count ≤ length (now part)) ⌝ }
     ensures { λ r. ⌜ r ≡ each (conditionFitsAt g (now (part .entry))) count 0 ⌝ }
 {
     for j in 0..count {
@@ -100,7 +101,7 @@ fn operation_fits(part: &[u8], g: u8, at: usize) -> bool
 }
 
 fn operations_fit(part: &[u8], g: u8, from: usize, count: usize) -> bool
-    requires { ⌜ (count ≤ 6) × (from + 4 * count ≤ length (now part)) ⌝ }
+    requires { ⌜ (count ≤ operations) × (from + 4 * count ≤ length (now part)) ⌝ }
     ensures { λ r. ⌜ r ≡ each (operationFitsAt g (now (part .entry)) from) count 0 ⌝ }
 {
     for j in 0..count {
@@ -150,7 +151,7 @@ fn command_refusal(part: &[u8], g: u8) -> u8
 }
 
 fn command_of(part: &[u8]) -> Command
-    requires { ⌜ (byte (now part) 1 ≤ 4) × (byte (now part) 2 ≤ 6) × (length (now part) ≡ 3 + 3 * byte (now part) 1 + 4 * byte (now part) 2) ⌝ }
+    requires { ⌜ (byte (now part) 1 ≤ conditions) × (byte (now part) 2 ≤ operations) × (length (now part) ≡ 3 + 3 * byte (now part) 1 + 4 * byte (now part) 2) ⌝ }
     ensures { λ r. ⌜ r ≡ commandOf (now (part .entry)) ⌝ }
 {
     let c = part[1];
@@ -250,7 +251,7 @@ fn operation_names(operation: Operation, b: u8) -> bool
 
 impl Command {
     fn in_conditions(self, b: u8) -> bool
-        requires { ⌜ self .conditions ≤ 4 ⌝ }
+        requires { ⌜ self .conditions ≤ conditions ⌝ }
         ensures { λ r. ⌜ r ≡ inConditions b (listed (conditionOf self) (self .conditions) 0) ⌝ }
     {
         let n = self.conditions as usize;
@@ -263,7 +264,7 @@ impl Command {
     }
 
     fn in_operations(self, b: u8) -> bool
-        requires { ⌜ self .operations ≤ 6 ⌝ }
+        requires { ⌜ self .operations ≤ operations ⌝ }
         ensures { λ r. ⌜ r ≡ inOperations b (listed (operationOf self) (self .operations) 0) ⌝ }
     {
         let n = self.operations as usize;
@@ -277,7 +278,7 @@ impl Command {
 
     // A condition or an operation names parameter b.
     pub fn names(self, b: u8) -> bool
-        requires { ⌜ (self .conditions ≤ 4) × (self .operations ≤ 6) ⌝ }
+        requires { ⌜ (self .conditions ≤ conditions) × (self .operations ≤ operations) ⌝ }
         ensures { λ r. ⌜ r ≡ named (meaning self) b ⌝ }
     {
         self.in_conditions(b) | self.in_operations(b)

@@ -2,6 +2,7 @@
 ghost use mathlib.Core.Path.{_≡_};
 ghost use mathlib.Core.List.{[]};
 ghost use Prim.Native.Nat.{_<_, _≤_};
+ghost use Rattle.protection.specs.Limits.{parameters};
 ghost use Rattle.cases.specs.Cases.{each, listed};
 ghost use Rattle.protection.specs.Command.{valuesOf};
 ghost use Rattle.protection.specs.Execution.{bounded, holds, holdAll, spareExists, actualFits};
@@ -12,7 +13,7 @@ use commands::Command;
 use matrix::Matrix;
 
 // Actual b is a name, or 255 in an unused position.
-fn actual_fits(k: u8, a: [u8; 4], b: usize) -> bool
+fn actual_fits(k: u8, a: [u8; Command::PARAMETERS], b: usize) -> bool
     requires { ⌜ b < 4 ⌝ }
     ensures { λ r. ⌜ r ≡ actualFits bounded k (valuesOf a) b ⌝ }
 {
@@ -23,8 +24,8 @@ fn actual_fits(k: u8, a: [u8; 4], b: usize) -> bool
     x == 255
 }
 
-pub fn actuals_fit(k: u8, a: [u8; 4]) -> bool
-    ensures { λ r. ⌜ r ≡ each (actualFits bounded k (valuesOf a)) 4 0 ⌝ }
+pub fn actuals_fit(k: u8, a: [u8; Command::PARAMETERS]) -> bool
+    ensures { λ r. ⌜ r ≡ each (actualFits bounded k (valuesOf a)) parameters 0 ⌝ }
 {
     for b in 0..Command::PARAMETERS {
         if !actual_fits(k, a, b) {
@@ -35,7 +36,12 @@ pub fn actuals_fit(k: u8, a: [u8; 4]) -> bool
 }
 
 // Parameter b is named, or its name exists.
-fn spare_exists(kinds: &[u8; Matrix::NAMES], c: Command, a: [u8; 4], b: u8) -> bool
+fn spare_exists(
+    kinds: &[u8; Matrix::NAMES],
+    c: Command,
+    a: [u8; Command::PARAMETERS],
+    b: u8,
+) -> bool
     requires { ⌜ SparesApply a c × (b < c .parameters) ⌝ }
     ensures { λ r. ⌜ r ≡ spareExists (meaning c) (view (now (kinds .entry)) []) (valuesOf a) b ⌝ }
 {
@@ -45,7 +51,7 @@ fn spare_exists(kinds: &[u8; Matrix::NAMES], c: Command, a: [u8; 4], b: u8) -> b
     matrix::is_object(kinds[operations::name_of(a, b)])
 }
 
-pub fn spares_exist(kinds: &[u8; Matrix::NAMES], c: Command, a: [u8; 4]) -> bool
+pub fn spares_exist(kinds: &[u8; Matrix::NAMES], c: Command, a: [u8; Command::PARAMETERS]) -> bool
     requires { ⌜ SparesApply a c ⌝ }
     ensures { λ r. ⌜ r ≡ each (spareExists (meaning c) (view (now (kinds .entry)) []) (valuesOf a)) (c .parameters) 0 ⌝ }
 {
@@ -63,7 +69,7 @@ fn condition_holds<'a>(
     cells: &'a [u8; Matrix::NAMES * Matrix::NAMES],
     c: Command,
     j: usize,
-    a: [u8; 4],
+    a: [u8; Command::PARAMETERS],
 ) -> bool
     requires { ⌜ ConditionApplies a c j ⌝ }
     ensures { λ r. ⌜ r ≡ holds (view (now (kinds .entry)) (now (cells .entry))) (valuesOf a) (conditionOf c j) ⌝ }
@@ -78,7 +84,7 @@ pub fn conditions_hold<'a>(
     kinds: &'a [u8; Matrix::NAMES],
     cells: &'a [u8; Matrix::NAMES * Matrix::NAMES],
     c: Command,
-    a: [u8; 4],
+    a: [u8; Command::PARAMETERS],
 ) -> bool
     requires { ⌜ ConditionsApply a c ⌝ }
     ensures { λ r. ⌜ r ≡ holdAll (view (now (kinds .entry)) (now (cells .entry))) (valuesOf a) (listed (conditionOf c) (c .conditions) 0) ⌝ }

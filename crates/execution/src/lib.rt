@@ -1,6 +1,7 @@
 // Running a command (document 01: a rule) on a matrix by value and on the lent file; refusals 11 to 15.
 ghost use mathlib.Core.Path.{_≡_};
 ghost use mathlib.Core.Option.{some};
+ghost use Rattle.protection.specs.Limits.{rights};
 ghost use Rattle.cases.specs.Cases.{listed};
 ghost use Rattle.protection.specs.Command.{valuesOf};
 ghost use Rattle.protection.specs.Execution.{bounded, executeCommand};
@@ -36,8 +37,8 @@ struct Ran {
 }
 
 // The operations in order, each on what the one before left.
-fn run_operations(m: Matrix, c: Command, a: [u8; 4], right: u8) -> Ran
-    requires { ⌜ Canonical 8 (m .kinds) (m .cells) × OperationsApply a c ⌝ }
+fn run_operations(m: Matrix, c: Command, a: [u8; Command::PARAMETERS], right: u8) -> Ran
+    requires { ⌜ Canonical rights (m .kinds) (m .cells) × OperationsApply a c ⌝ }
     ensures { λ r. ⌜ RanAs right m a (listed (operationOf c) (c .operations) 0) r ⌝ }
 {
     let n = c.operations as usize;
@@ -72,8 +73,8 @@ fn refused_with(n: u8, m: Matrix) -> Executed
 }
 
 // A command with actual parameters: all conditions are tested before the first operation; all operations are done, or none.
-fn run_command(m: Matrix, c: Command, a: [u8; 4], right: u8) -> Executed
-    requires { ⌜ Canonical 8 (m .kinds) (m .cells) × Fits 8 c ⌝ }
+fn run_command(m: Matrix, c: Command, a: [u8; Command::PARAMETERS], right: u8) -> Executed
+    requires { ⌜ Canonical rights (m .kinds) (m .cells) × Fits rights c ⌝ }
     ensures { λ r. ⌜ ExecutedAs right (executeCommand bounded (stateOf m) (some (meaning c)) (valuesOf a)) m r ⌝ }
 {
     let k = c.parameters;
@@ -106,8 +107,14 @@ fn run_command(m: Matrix, c: Command, a: [u8; 4], right: u8) -> Executed
 }
 
 // One call of a command on a matrix.
-pub fn execute(p: Policy, m: Matrix, command: u8, a: [u8; 4], right: u8) -> Executed
-    requires { ⌜ PolicyFits p × Canonical 8 (m .kinds) (m .cells) ⌝ }
+pub fn execute(
+    p: Policy,
+    m: Matrix,
+    command: u8,
+    a: [u8; Command::PARAMETERS],
+    right: u8,
+) -> Executed
+    requires { ⌜ PolicyFits p × Canonical rights (m .kinds) (m .cells) ⌝ }
     ensures { λ r. ⌜ ExecutedAs right (outcomeOf p m command a) m r ⌝ }
 {
     if p.commands <= command {

@@ -1,6 +1,7 @@
 // The access matrix as a struct by value.
 ghost use mathlib.Core.Path.{_≡_};
 ghost use Prim.Native.Nat.{_<_};
+ghost use Rattle.protection.specs.Limits.{names, rights};
 ghost use Rattle.protection.specs.State.{isObject, isSubject};
 ghost use Rattle.matrix.specs.Bytes.{kindOf, inside};
 ghost use Rattle.matrix.specs.Matrices.{emptyMatrix, entered, deleted, renewed};
@@ -35,7 +36,7 @@ impl Matrix {
 
     // Right q is put into the cell (s, o).
     pub fn with_right(mut self, q: u8, s: usize, o: usize) -> Self
-        requires { ⌜ (q < 8) × (s < 32) × (o < 32) ⌝ }
+        requires { ⌜ (q < rights) × (s < names) × (o < names) ⌝ }
         ensures { λ r. ⌜ r ≡ entered self q s o ⌝ }
     {
         let at = Matrix::NAMES * s + o;
@@ -45,7 +46,7 @@ impl Matrix {
 
     // Right q is taken out of the cell (s, o).
     pub fn without_right(mut self, q: u8, s: usize, o: usize) -> Self
-        requires { ⌜ (q < 8) × (s < 32) × (o < 32) ⌝ }
+        requires { ⌜ (q < rights) × (s < names) × (o < names) ⌝ }
         ensures { λ r. ⌜ r ≡ deleted self q s o ⌝ }
     {
         let at = Matrix::NAMES * s + o;
@@ -55,7 +56,7 @@ impl Matrix {
 
     // Name n gets a kind, and an empty row and column.
     pub fn renewed(self, n: usize, kind: u8) -> Self
-        requires { ⌜ n < 32 ⌝ }
+        requires { ⌜ n < names ⌝ }
         ensures { λ r. ⌜ r ≡ renewed self n kind ⌝ }
     {
         let mut kinds = self.kinds;
@@ -85,7 +86,7 @@ pub fn is_object(kind: u8) -> bool
 
 // The cell (s, o) has a row and a column.
 pub fn has_cell(kinds: &[u8; Matrix::NAMES], s: usize, o: usize) -> bool
-    requires { ⌜ (s < 32) × (o < 32) ⌝ }
+    requires { ⌜ (s < names) × (o < names) ⌝ }
     ensures { λ r. ⌜ r ≡ inside (now (kinds .entry)) s o ⌝ }
 {
     if is_subject(kinds[s]) {

@@ -2,6 +2,7 @@
 ghost use mathlib.Core.Path.{_≡_};
 ghost use Prim.Native.Nat.{_+_, _*_, _≤_, _<_};
 ghost use lib.ListN.{length, getD};
+ghost use Rattle.protection.specs.Limits.{commands};
 ghost use Rattle.layout.specs.File.{rightsOf, commandIn};
 ghost use Rattle.policy.specs.Contents.{matrixOf, commandsRead, noPolicy, refusedRead, policyRead};
 ghost use Rattle.commands.specs.Contents.{missing, commandRead};
@@ -45,7 +46,7 @@ impl Policy {
 
     // Command number i.
     pub fn command_at(self, i: usize) -> Command
-        requires { ⌜ i < 32 ⌝ }
+        requires { ⌜ i < commands ⌝ }
         ensures { λ r. ⌜ r ≡ getD (self .command) i missing ⌝ }
     {
         self.command[i]

@@ -8,13 +8,14 @@ ghost use Rattle.matrix.specs.Matrices.{stateOf};
 ghost use Rattle.trace.specs.Traces.{stepAt, calls, stepsIn};
 ghost use Rattle.trace.specs.Replays.{replayFrom, fileReplay};
 ghost use Rattle.trace.specs.Ends.{endOf};
+use commands::Command;
 use execution::Answer;
 use policy::Policy;
 
 // One step of a trace: a command's number and four actuals.
 pub struct Step {
     pub command: u8,
-    pub actuals: [u8; 4],
+    pub actuals: [u8; Command::PARAMETERS],
 }
 
 // What a replay answers: no leak, the first leaking step, or the first refused step with its refusal.

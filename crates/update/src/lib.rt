@@ -2,6 +2,7 @@
 ghost use mathlib.Core.Path.{_≡_};
 ghost use Prim.Native.Nat.{_+_, _≤_};
 ghost use lib.ListN.{length};
+ghost use Rattle.protection.specs.Limits.{rights};
 ghost use Rattle.matrix.specs.Canonical.{Canonical};
 ghost use Rattle.matrix.specs.Matrices.{stateOf};
 ghost use Rattle.policy.specs.Contents.{over, written};
@@ -20,7 +21,7 @@ fn store_at(file: &mut [u8], at: usize, s: &[u8])
 
 // The matrix written into the file.
 fn store(file: &mut [u8], m: Matrix)
-    requires { ⌜ MatrixInside (now file) × Canonical 8 (m .kinds) (m .cells) ⌝ }
+    requires { ⌜ MatrixInside (now file) × Canonical rights (m .kinds) (m .cells) ⌝ }
     ensures { λ _. ⌜ now (file .exit) ≡ written (now (file .entry)) (stateOf m) ⌝ }
 {
     let k = layout::word_at(file, 2);

@@ -1,0 +1,1 @@
+// Document 01's cases, proved: specs/ and proofs/ alone.
