@@ -1,0 +1,4 @@
+pub mod NameMasks
+pub mod Shapes
+pub mod Goodness
+pub mod Founds
