@@ -83,6 +83,7 @@ module _ (g : ℕ) (p : List ℕ) (A : CommandFits g p) where
     pub command-fits : Fits g (commandOf p)
     unfolding commandOf
     command-fits = record {
+      some-parameter = A .some-parameter;
       few-parameters = A .few-parameters;
       few-conditions = A .few-conditions;
       some-operation = A .some-operation;

@@ -5,6 +5,7 @@ use Rattle.protection.specs.Limits.{parameters, conditions, operations}
 use Rattle.commands.specs.declared.Command.{Command}
 
 pub record Fits (g : ℕ) (c : Command) : Type 0 where
+  pub some-parameter : 1 ≤ c .parameters
   pub few-parameters : c .parameters ≤ parameters
   pub few-conditions : c .conditions ≤ conditions
   pub some-operation : 1 ≤ c .operations

@@ -26,6 +26,7 @@ use Rattle.execution.proofs.Running.{executed-refused}
 -- what fits with g rights fits with more
 pub fits-wider : (g h : ℕ) (c : Command) → g ≤ h → Fits g c → Fits h c
 fits-wider g h c l F = record {
+  some-parameter = F .some-parameter;
   few-parameters = F .few-parameters;
   few-conditions = F .few-conditions;
   some-operation = F .some-operation;

@@ -15,7 +15,7 @@ use Rattle.cases.specs.Cases.{pick, turns}
 use Rattle.cases.proofs.Bools.{and-left, and-right, and-intro, or-cases, or-left, or-right, is-false}
 use Rattle.cases.proofs.Loops.{turns-end, turns-count}
 use Rattle.rights.specs.Rights.{has, insert, delete}
-use Rattle.rights.proofs.Sets.{has-insert-same, has-insert-other, has-delete-same, has-delete-other, has-none, insert-below, delete-below}
+use Rattle.rights.proofs.Sets.{has-insert-same, has-insert-other, has-delete-same, has-delete-other, has-none, insert-below, delete-below, delete-none}
 use Rattle.protection.specs.Limits.{names, rights}
 use Rattle.protection.specs.State.{Kind, isObject, isSubject, State}
 use Rattle.protection.specs.Paper.{subject-is-object}
@@ -135,8 +135,8 @@ module _ (g : ℕ) (m : Matrix) (K : Canonical g (m .kinds) (m .cells)) (q s o :
   pub entered-canonical : T (inside (m .kinds) s o) → Canonical g (entered m q s o .kinds) (entered m q s o .cells)
   entered-canonical i = set-canonical (insert was q) (insert-below g was q lq (K .cells-fit (place s o))) (λ t. absurd (T-not (inside (m .kinds) s o) t i))
 
-  pub deleted-canonical : T (inside (m .kinds) s o) → Canonical g (deleted m q s o .kinds) (deleted m q s o .cells)
-  deleted-canonical i = set-canonical (delete was q) (delete-below g was q lq (K .cells-fit (place s o))) (λ t. absurd (T-not (inside (m .kinds) s o) t i))
+  pub deleted-canonical : Canonical g (deleted m q s o .kinds) (deleted m q s o .cells)
+  deleted-canonical = set-canonical (delete was q) (delete-below g was q lq (K .cells-fit (place s o))) (λ t. ap (λ (z : ℕ). delete z q) (K .outside s o ls lo t) ∙ delete-none q)
 
 -- ---- renew: after k turns the first k cells of row n and of column n are empty, and nothing else has changed
 record Emptied (cs : List ℕ) (n k : ℕ) (ds : List ℕ) : Type 0 where

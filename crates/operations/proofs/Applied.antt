@@ -148,7 +148,7 @@ module _ (g : ℕ) (m : Matrix) (K : Canonical g (m .kinds) (m .cells)) (a : Lis
   pub performed-canonical : (op : Operation) → Applies a op → Grants g op → T (canDo (stateOf m) (valuesOf a) (modelOf op))
       → Canonical g (performed m (valuesOf a) op .kinds) (performed m (valuesOf a) op .cells)
   performed-canonical (Enter q s o) h l t = entered-canonical g m K q (getD a s 0) (getD a o 0) l (h .1 .name) (h .2 .name) t
-  performed-canonical (Delete q s o) h l t = deleted-canonical g m K q (getD a s 0) (getD a o 0) l (h .1 .name) (h .2 .name) t
+  performed-canonical (Delete q s o) h l t = deleted-canonical g m K q (getD a s 0) (getD a o 0) l (h .1 .name) (h .2 .name)
   performed-canonical (CreateSubject s) h l t = renewed-canonical g m K (getD a s 0) 2 (h .name) (omega arith)
   performed-canonical (CreateObject o) h l t = renewed-canonical g m K (getD a o 0) 1 (h .name) (omega arith)
   performed-canonical (DestroySubject s) h l t = renewed-canonical g m K (getD a s 0) 0 (h .name) (omega arith)

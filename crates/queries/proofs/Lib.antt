@@ -2,3 +2,4 @@ pub mod NameMasks
 pub mod Shapes
 pub mod Goodness
 pub mod Founds
+pub mod Picking

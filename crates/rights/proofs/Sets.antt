@@ -3,7 +3,7 @@ use Prim.Native.Nat.{ℕ, zero, suc, _+_, _-_, _*_, _/_, _%_, _^_, _≤_, _<_}
 use mathlib.Core.Path.{_≡_, refl, sym, ap, ap₂, _∙_, subst}
 use mathlib.Core.Bool.{Bool, true, false}
 use native.Mathlib.Nat.{div-eq-of-lt, div-div-eq-div-mul, pow-succ', div-lt-iff-lt-mul, pow-le-pow-right, le-trans, div-one, pow-zero}
-use native.Mathlib.Decide.{decLt}
+use native.Mathlib.Decide.{decLt, ℕ-discrete}
 use native.Mathlib.Omega.{arith}
 use borrow.Author.Tests.{eq-eqb, ne-eqb, eqb-true, eqb-false}
 use lib.Bits.{bitOr, or-lt, xor-lt}
@@ -106,6 +106,14 @@ number-same p q (suc w) e =
 -- two sets with no right from w on that have the same rights are one
 pub same-rights : (w c d : ℕ) → c < 2 ^ w → d < 2 ^ w → ((q : ℕ) → q < w → has c q ≡ has d q) → c ≡ d
 same-rights w c d lc ld e = sym (number-has w c lc) ∙ number-same (has c) (has d) w e ∙ number-has w d ld
+
+-- deleting from the empty set
+pub delete-none : (q : ℕ) → delete 0 q ≡ 0
+delete-none q = same-rights (suc q) (delete 0 q) 0 (delete-below (suc q) 0 q (omega arith) (pow-pos (suc q))) (pow-pos (suc q)) (λ i _. by i (ℕ-discrete q i))
+  where
+    by : (i : ℕ) → Dec (q ≡ i) → has (delete 0 q) i ≡ has 0 i
+    by i (yes e) = ap (has (delete 0 q)) (sym e) ∙ has-delete-same 0 q ∙ sym (has-none i)
+    by i (no f) = has-delete-other 0 q i f
 
 -- a set of rights below g has no right from g on, however wide the number
 pub number-within : (g : ℕ) (p : ℕ → Bool) (w : ℕ) → ((q : ℕ) → T (p q) → q < g) → number p w < 2 ^ g
