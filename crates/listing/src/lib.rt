@@ -1,0 +1,79 @@
+// The printed answer, as bytes in a lent buffer.
+ghost use mathlib.Core.Path.{_≡_};
+ghost use mathlib.Core.List.{[], _∷_};
+ghost use Prim.Native.Nat.{_+_, _*_, _≤_, _<_};
+ghost use lib.ListN.{length};
+ghost use Rattle.listing.specs.Listing.{decimal, head, line};
+ghost use Rattle.listing.specs.Writing.{Put, PutWithin, shownActual};
+
+// Each of these writes from a place on, and answers the place behind what it wrote.
+fn put(out: &mut [u8], at: usize, s: &[u8]) -> usize
+    requires { ⌜ at + length (now s) ≤ length (now out) ⌝ }
+    ensures { λ r. ⌜ Put (now (out .entry)) at (now (s .entry)) r (now (out .exit)) ⌝ }
+{
+    bytes::copy(s, &mut out[at..]);
+    at + s.len()
+}
+
+fn put_byte(out: &mut [u8], at: usize, b: u8) -> usize
+    requires { ⌜ at < length (now out) ⌝ }
+    ensures { λ r. ⌜ Put (now (out .entry)) at (b ∷ []) r (now (out .exit)) ⌝ }
+{
+    out[at] = b;
+    at + 1
+}
+
+// A number in decimal: the last digit behind those of a tenth of it.
+fn put_decimal(out: &mut [u8], at: usize, n: usize) -> usize
+    requires { ⌜ at + length (decimal n) ≤ length (now out) ⌝ }
+    ensures { λ r. ⌜ Put (now (out .entry)) at (decimal n) r (now (out .exit)) ⌝ }
+{
+    if n < 10 {
+        return put_byte(out, at, 48 + (n as u8));
+    }
+    let next = put_decimal(out, at, n / 10);
+    put_byte(out, next, 48 + (n % 10) as u8)
+}
+
+// A byte in decimal takes at most three digits.
+fn put_number(out: &mut [u8], at: usize, n: u8) -> usize
+    requires { ⌜ at + 3 ≤ length (now out) ⌝ }
+    ensures { λ r. ⌜ PutWithin 3 (now (out .entry)) at (decimal n) r (now (out .exit)) ⌝ }
+{
+    put_decimal(out, at, n as usize)
+}
+
+// An actual behind a space, where it is one of the k.
+fn put_actual(out: &mut [u8], at: usize, shown: bool, a: u8) -> usize
+    requires { ⌜ at + 4 ≤ length (now out) ⌝ }
+    ensures { λ r. ⌜ PutWithin 4 (now (out .entry)) at (shownActual shown a) r (now (out .exit)) ⌝ }
+{
+    if !shown {
+        return at;
+    }
+    let next = put_byte(out, at, b' ');
+    put_number(out, next, a)
+}
+
+// A step's line: the rule's number and the first k actuals.
+fn put_line(out: &mut [u8], at: usize, k: u8, rule: u8, a0: u8, a1: u8, a2: u8, a3: u8) -> usize
+    requires { ⌜ at + 20 ≤ length (now out) ⌝ }
+    ensures { λ r. ⌜ PutWithin 20 (now (out .entry)) at (line k (record { command = rule; a0 = a0; a1 = a1; a2 = a2; a3 = a3 })) r (now (out .exit)) ⌝ }
+{
+    let b0 = put_number(out, at, rule);
+    let b1 = put_actual(out, b0, 0 < k, a0);
+    let b2 = put_actual(out, b1, 1 < k, a1);
+    let b3 = put_actual(out, b2, 2 < k, a2);
+    let b4 = put_actual(out, b3, 3 < k, a3);
+    put_byte(out, b4, b'\n')
+}
+
+// The first line.
+fn put_head(out: &mut [u8], word: &[u8], n: usize) -> usize
+    requires { ⌜ length (now word) + length (decimal n) < length (now out) ⌝ }
+    ensures { λ r. ⌜ Put (now (out .entry)) 0 (head (now (word .entry)) n) r (now (out .exit)) ⌝ }
+{
+    let a = put(out, 0, word);
+    let b = put_decimal(out, a, n);
+    put_byte(out, b, b'\n')
+}
