@@ -141,26 +141,34 @@ shown-are (suc (suc (suc (suc k)))) a0 a1 a2 a3 =
     (ap (λ (x : List ℕ). (space ∷ decimal a0) ++ ((space ∷ decimal a1) ++ ((space ∷ decimal a2) ++ x))) (sym (append-nil (space ∷ decimal a3))
     ∙ ap (λ (l : List ℕ). (space ∷ decimal a3) ++ spaced l) (sym (take-nil k))))
 
-pub line-put : (b b0 b1 b2 b3 b4 b5 : List ℕ) (at r0 r1 r2 r3 r4 r5 k c a0 a1 a2 a3 : ℕ) → at + 20 ≤ length b
-    → PutWithin 3 b at (decimal c) r0 b0 → PutWithin 4 b0 r0 (shownActual (ltb 0 k) a0) r1 b1 → PutWithin 4 b1 r1 (shownActual (ltb 1 k) a1) r2 b2
-    → PutWithin 4 b2 r2 (shownActual (ltb 2 k) a2) r3 b3 → PutWithin 4 b3 r3 (shownActual (ltb 3 k) a3) r4 b4 → Put b4 r4 (newline ∷ []) r5 b5
-    → PutWithin 20 b at (line k (record { command = c; a0 = a0; a1 = a1; a2 = a2; a3 = a3 })) r5 b5
-line-put b b0 b1 b2 b3 b4 b5 at r0 r1 r2 r3 r4 r5 k c a0 a1 a2 a3 h p q0 q1 q2 q3 e =
+pub actuals-put : (b b1 b2 b3 b4 : List ℕ) (at r1 r2 r3 r4 k a0 a1 a2 a3 : ℕ) → at + 16 ≤ length b
+    → PutWithin 4 b at (shownActual (ltb 0 k) a0) r1 b1 → PutWithin 4 b1 r1 (shownActual (ltb 1 k) a1) r2 b2
+    → PutWithin 4 b2 r2 (shownActual (ltb 2 k) a2) r3 b3 → PutWithin 4 b3 r3 (shownActual (ltb 3 k) a3) r4 b4
+    → PutWithin 16 b at (spaced (take k (a0 ∷ a1 ∷ a2 ∷ a3 ∷ []))) r4 b4
+actuals-put b b1 b2 b3 b4 at r1 r2 r3 r4 k a0 a1 a2 a3 h q0 q1 q2 q3 =
     let s0 = shownActual (ltb 0 k) a0 in
     let s1 = shownActual (ltb 1 k) a1 in
     let s2 = shownActual (ltb 2 k) a2 in
     let s3 = shownActual (ltb 3 k) a3 in
     let l : at ≤ length b = omega arith in
-    let w0 = put-then b b0 b1 (decimal c) s0 at r0 r1 l (p .put) (q0 .put) in
-    let w1 = put-then b b1 b2 (decimal c ++ s0) s1 at r1 r2 l w0 (q1 .put) in
-    let w2 = put-then b b2 b3 (decimal c ++ s0 ++ s1) s2 at r2 r3 l w1 (q2 .put) in
-    let w3 = put-then b b3 b4 (decimal c ++ s0 ++ s1 ++ s2) s3 at r3 r4 l w2 (q3 .put) in
-    let w4 = put-then b b4 b5 (decimal c ++ s0 ++ s1 ++ s2 ++ s3) (newline ∷ []) at r4 r5 l w3 e in
-    let same : decimal c ++ s0 ++ s1 ++ s2 ++ s3 ≡ decimal c ++ spaced (take k (a0 ∷ a1 ∷ a2 ∷ a3 ∷ [])) =
-    simp append-assoc (ap (λ (x : List ℕ). decimal c ++ x) (shown-are k a0 a1 a2 a3)) in
+    let w1 = put-then b b1 b2 s0 s1 at r1 r2 l (q0 .put) (q1 .put) in
+    let w2 = put-then b b2 b3 (s0 ++ s1) s2 at r2 r3 l w1 (q2 .put) in
+    let w3 = put-then b b3 b4 (s0 ++ s1 ++ s2) s3 at r3 r4 l w2 (q3 .put) in
+    let same : s0 ++ s1 ++ s2 ++ s3 ≡ spaced (take k (a0 ∷ a1 ∷ a2 ∷ a3 ∷ [])) = simp append-assoc (shown-are k a0 a1 a2 a3) in
     record {
-      put = subst (λ (x : List ℕ). Put b at (x ++ (newline ∷ [])) r5 b5) same w4;
-      few = let v = e .next in let u0 = p .few in let u1 = q0 .few in let u2 = q1 .few in let u3 = q2 .few in let u4 = q3 .few in omega arith;
+      put = subst (λ (x : List ℕ). Put b at x r4 b4) same w3;
+      few = let u1 = q0 .few in let u2 = q1 .few in let u3 = q2 .few in let u4 = q3 .few in omega arith;
+    }
+
+pub line-put : (b b1 b2 b3 : List ℕ) (at r1 r2 r3 k c a0 a1 a2 a3 : ℕ) → at + 20 ≤ length b
+    → PutWithin 3 b at (decimal c) r1 b1 → PutWithin 16 b1 r1 (spaced (take k (a0 ∷ a1 ∷ a2 ∷ a3 ∷ []))) r2 b2 → Put b2 r2 (newline ∷ []) r3 b3
+    → PutWithin 20 b at (line k (record { command = c; a0 = a0; a1 = a1; a2 = a2; a3 = a3 })) r3 b3
+line-put b b1 b2 b3 at r1 r2 r3 k c a0 a1 a2 a3 h p q e =
+    let s = spaced (take k (a0 ∷ a1 ∷ a2 ∷ a3 ∷ [])) in
+    let l : at ≤ length b = omega arith in
+    record {
+      put = put-then b b2 b3 (decimal c ++ s) (newline ∷ []) at r2 r3 l (put-then b b1 b2 (decimal c) s at r1 r2 l (p .put) (q .put)) e;
+      few = let v = e .next in let u = p .few in let w = q .few in omega arith;
     }
 
 -- ---- the first line

@@ -2,8 +2,8 @@
 ghost use mathlib.Core.Path.{_≡_};
 ghost use mathlib.Core.List.{[], _∷_};
 ghost use Prim.Native.Nat.{_+_, _*_, _≤_, _<_};
-ghost use lib.ListN.{length};
-ghost use Rattle.listing.specs.Listing.{decimal, head, line};
+ghost use lib.ListN.{length, take};
+ghost use Rattle.listing.specs.Listing.{decimal, spaced, head, line};
 ghost use Rattle.listing.specs.Writing.{Put, PutWithin, shownActual};
 
 // Each of these writes from a place on, and answers the place behind what it wrote.
@@ -55,17 +55,25 @@ fn put_actual(out: &mut [u8], at: usize, shown: bool, a: u8) -> usize
     put_number(out, next, a)
 }
 
+// The first k of four actuals.
+fn put_actuals(out: &mut [u8], at: usize, k: u8, a0: u8, a1: u8, a2: u8, a3: u8) -> usize
+    requires { ⌜ at + 16 ≤ length (now out) ⌝ }
+    ensures { λ r. ⌜ PutWithin 16 (now (out .entry)) at (spaced (take k (a0 ∷ a1 ∷ a2 ∷ a3 ∷ []))) r (now (out .exit)) ⌝ }
+{
+    let b1 = put_actual(out, at, 0 < k, a0);
+    let b2 = put_actual(out, b1, 1 < k, a1);
+    let b3 = put_actual(out, b2, 2 < k, a2);
+    put_actual(out, b3, 3 < k, a3)
+}
+
 // A step's line: the rule's number and the first k actuals.
 fn put_line(out: &mut [u8], at: usize, k: u8, rule: u8, a0: u8, a1: u8, a2: u8, a3: u8) -> usize
     requires { ⌜ at + 20 ≤ length (now out) ⌝ }
     ensures { λ r. ⌜ PutWithin 20 (now (out .entry)) at (line k (record { command = rule; a0 = a0; a1 = a1; a2 = a2; a3 = a3 })) r (now (out .exit)) ⌝ }
 {
-    let b0 = put_number(out, at, rule);
-    let b1 = put_actual(out, b0, 0 < k, a0);
-    let b2 = put_actual(out, b1, 1 < k, a1);
-    let b3 = put_actual(out, b2, 2 < k, a2);
-    let b4 = put_actual(out, b3, 3 < k, a3);
-    put_byte(out, b4, b'\n')
+    let b1 = put_number(out, at, rule);
+    let b2 = put_actuals(out, b1, k, a0, a1, a2, a3);
+    put_byte(out, b2, b'\n')
 }
 
 // The first line.
