@@ -116,7 +116,7 @@ number-room b n at h k = let z = byte-digits n h in omega arith
 pub number-put : (b b' : List ℕ) (n at r : ℕ) → n < 256 → Put b at (decimal n) r b' → PutWithin 3 b at (decimal n) r b'
 number-put b b' n at r h p = record { put = p; few = let z = byte-digits n h in let w = p .next in omega arith }
 
-put-none : (b : List ℕ) (at : ℕ) → Put b at [] at b
+pub put-none : (b : List ℕ) (at : ℕ) → Put b at [] at b
 put-none b at = record {
   next = let z : at + 0 ≡ at = omega arith in sym z;
   bytes = let z : at + 0 ≡ at = omega arith in sym (ap₂ (λ (x : List ℕ) (n : ℕ). x ++ drop n b) (append-nil (take at b)) z ∙ take-append-drop at b);

@@ -57,9 +57,12 @@ line k x = decimal (x .command) ++ spaced (take k (x .a0 ∷ x .a1 ∷ x .a2 ∷
 abbrev pub blanksOf : Policy → ℕ → ℕ
 blanksOf p i = getD (p .command) i missing .parameters
 
+abbrev pub stepLine : Policy → Call → List ℕ
+stepLine p x = line (blanksOf p (x .command)) x
+
 abbrev pub lines : Policy → List Call → List ℕ
 lines p [] = []
-lines p (x ∷ xs) = line (blanksOf p (x .command)) x ++ lines p xs
+lines p (x ∷ xs) = stepLine p x ++ lines p xs
 
 -- ---- the whole
 -- "It prints `SAFE n`, or `UNSAFE n` followed by a line a step, or `REFUSED n`." "Its n is the steps written, or the refusal."

@@ -1,5 +1,5 @@
 -- Bytes written into a lent buffer one after the other.
-use Prim.Native.Nat.{ℕ, _+_, _≤_}
+use Prim.Native.Nat.{ℕ, _+_, _*_, _≤_}
 use mathlib.Core.Path.{_≡_}
 use mathlib.Core.Bool.{Bool}
 use mathlib.Core.List.{List, [], _∷_}
@@ -7,6 +7,8 @@ use lib.Dec.{ltb}
 use lib.ListN.{length}
 use Rattle.cases.specs.Cases.{pick}
 use Rattle.policy.specs.Contents.{over}
+use Rattle.safety.specs.Judgement.{stepsWritten}
+use Rattle.safety.specs.declared.Judgement.{Judgement}
 use Rattle.listing.specs.Listing.{space, decimal, listing}
 
 -- the bytes s, written into b from a place on; r is the place behind them
@@ -26,6 +28,12 @@ shownActual b a = pick b (space ∷ decimal a) []
 -- room for every listing: a head of at most 12 bytes and 7,940 lines of at most 20
 abbrev pub listingBytes : ℕ
 listingBytes = 158812
+
+-- the judgement's steps are in the step buffer, and their lines fit
+pub record Room (b : List ℕ) (j : Judgement) (t : List ℕ) : Type 0 where
+  pub steps : 5 * stepsWritten j ≤ length t
+  pub few : stepsWritten j ≤ 7940
+  pub lines : listingBytes ≤ length b
 
 -- a buffer that is shorter is left as it was; else the listing stands at its front, and the rest keeps its bytes
 pub record Answered (input b : List ℕ) (r : ℕ) (b' : List ℕ) : Type 0 where

@@ -3,8 +3,12 @@ ghost use mathlib.Core.Path.{_≡_};
 ghost use mathlib.Core.List.{[], _∷_};
 ghost use Prim.Native.Nat.{_+_, _*_, _≤_, _<_};
 ghost use lib.ListN.{length, take};
-ghost use Rattle.listing.specs.Listing.{decimal, spaced, head, line};
-ghost use Rattle.listing.specs.Writing.{Put, PutWithin, shownActual};
+ghost use Rattle.listing.specs.Listing.{decimal, spaced, head, blanksOf, stepLine, line, lines, printed};
+ghost use Rattle.listing.specs.Writing.{Put, PutWithin, shownActual, Room};
+ghost use Rattle.trace.specs.Traces.{callAt, calls};
+ghost use Rattle.safety.specs.Judgement.{stepsWritten};
+use policy::Policy;
+use safety::Judgement;
 
 // Each of these writes from a place on, and answers the place behind what it wrote.
 fn put(out: &mut [u8], at: usize, s: &[u8]) -> usize
@@ -76,6 +80,41 @@ fn put_line(out: &mut [u8], at: usize, k: u8, rule: u8, a0: u8, a1: u8, a2: u8, 
     put_byte(out, b2, b'\n')
 }
 
+// The blanks of a rule; a number that no rule has stands for none.
+fn blanks_of(p: Policy, rule: u8) -> u8
+    ensures { λ r. ⌜ r ≡ blanksOf p rule ⌝ }
+{
+    let i = rule as usize;
+    if Policy::COMMANDS <= i {
+        return 0;
+    }
+    let command = p.command_at(i);
+    command.parameters
+}
+
+// The line of step i.
+fn put_step(out: &mut [u8], at: usize, p: Policy, steps: &[u8], i: usize) -> usize
+    requires { ⌜ (at + 20 ≤ length (now out)) × (5 * i + 5 ≤ length (now steps)) ⌝ }
+    ensures { λ r. ⌜ PutWithin 20 (now (out .entry)) at (stepLine p (callAt (now (steps .entry)) i)) r (now (out .exit)) ⌝ }
+{
+    let from = 5 * i;
+    let rule = steps[from];
+    let k = blanks_of(p, rule);
+    put_line(out, at, k, rule, steps[from + 1], steps[from + 2], steps[from + 3], steps[from + 4])
+}
+
+// The lines of the first n steps.
+fn put_lines(out: &mut [u8], from: usize, p: Policy, steps: &[u8], n: usize) -> usize
+    requires { ⌜ (from + 20 * n ≤ length (now out)) × (5 * n ≤ length (now steps)) ⌝ }
+    ensures { λ r. ⌜ Put (now (out .entry)) from (lines p (calls (now (steps .entry)) n)) r (now (out .exit)) ⌝ }
+{
+    let mut at = from;
+    for i in 0..n {
+        at = put_step(out, at, p, steps, i);
+    }
+    at
+}
+
 // The first line.
 fn put_head(out: &mut [u8], word: &[u8], n: usize) -> usize
     requires { ⌜ length (now word) + length (decimal n) < length (now out) ⌝ }
@@ -84,4 +123,19 @@ fn put_head(out: &mut [u8], word: &[u8], n: usize) -> usize
     let a = put(out, 0, word);
     let b = put_decimal(out, a, n);
     put_byte(out, b, b'\n')
+}
+
+// The whole answer, given the judgement and the steps that it wrote.
+fn print(out: &mut [u8], judgement: Judgement, p: Policy, steps: &[u8]) -> usize
+    requires { ⌜ Room (now out) judgement (now steps) ⌝ }
+    ensures { λ r. ⌜ Put (now (out .entry)) 0 (printed p judgement (calls (now (steps .entry)) (stepsWritten judgement))) r (now (out .exit)) ⌝ }
+{
+    match judgement {
+        Judgement::Refused(n) => put_head(out, b"REFUSED ", n as usize),
+        Judgement::Safe(n) => put_head(out, b"SAFE ", n),
+        Judgement::Unsafe(n) => {
+            let at = put_head(out, b"UNSAFE ", n);
+            put_lines(out, at, p, steps, n)
+        }
+    }
 }
