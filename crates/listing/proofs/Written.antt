@@ -98,16 +98,22 @@ more-put b b' b'' n at r r' h k p q =
     subst (λ (l : List ℕ). Put b at l r' b'') (sym (decimal-more n h)) (put-then b b' b'' (decimal (n / 10)) ((48 + n % 10) ∷ []) at r r' (omega arith) p q)
 
 -- ---- numbers of few digits
-short : (n : ℕ) → n < 10 → length (decimal n) ≡ 1
-short n h = ap length (decimal-small n h)
+-- one digit more than a tenth of it
+one-more : (k n : ℕ) → 1 ≤ k → (10 ≤ n → length (decimal (n / 10)) ≤ k) → length (decimal n) ≤ k + 1
+one-more k n h f = go (decLt n 10)
+  where
+    go : Dec (n < 10) → length (decimal n) ≤ k + 1
+    go (yes a) = let e : length (decimal n) ≡ 1 = ap length (decimal-small n a) in omega arith
+    go (no a) = let e = length-more n (omega arith) in let z = f (omega arith) in omega arith
+
+two-digits : (n : ℕ) → n < 100 → length (decimal n) ≤ 2
+two-digits n h = one-more 1 n (omega arith) (λ l. let e : length (decimal (n / 10)) ≡ 1 = ap length (decimal-small (n / 10) (omega arith)) in omega arith)
 
 pub byte-digits : (n : ℕ) → n < 256 → length (decimal n) ≤ 3
-byte-digits n h = go (decLt n 10) (decLt (n / 10) 10)
-  where
-    go : Dec (n < 10) → Dec (n / 10 < 10) → length (decimal n) ≤ 3
-    go (yes a) d = let e = short n a in omega arith
-    go (no a) (yes b) = let e = length-more n (omega arith) in let e' = short (n / 10) b in omega arith
-    go (no a) (no b) = let e = length-more n (omega arith) in let e' = length-more (n / 10) (omega arith) in let e'' = short (n / 10 / 10) (omega arith) in omega arith
+byte-digits n h = one-more 2 n (omega arith) (λ l. two-digits (n / 10) (omega arith))
+
+pub count-digits : (n : ℕ) → n ≤ 7940 → length (decimal n) ≤ 4
+count-digits n h = one-more 3 n (omega arith) (λ l. one-more 2 (n / 10) (omega arith) (λ l'. two-digits (n / 10 / 10) (omega arith)))
 
 -- ---- a line
 pub number-room : (b : List ℕ) (n at : ℕ) → n < 256 → at + 3 ≤ length b → at + length (decimal n) ≤ length b

@@ -7,8 +7,6 @@ use lib.Dec.{ltb}
 use lib.ListN.{length}
 use Rattle.cases.specs.Cases.{pick}
 use Rattle.policy.specs.Contents.{over}
-use Rattle.safety.specs.Judgement.{stepsWritten}
-use Rattle.safety.specs.declared.Judgement.{Judgement}
 use Rattle.listing.specs.Listing.{space, decimal, listing}
 
 -- the bytes s, written into b from a place on; r is the place behind them
@@ -29,10 +27,10 @@ shownActual b a = pick b (space ∷ decimal a) []
 abbrev pub listingBytes : ℕ
 listingBytes = 158812
 
--- the judgement's steps are in the step buffer, and their lines fit
-pub record Room (b : List ℕ) (j : Judgement) (t : List ℕ) : Type 0 where
-  pub steps : 5 * stepsWritten j ≤ length t
-  pub few : stepsWritten j ≤ 7940
+-- n steps are in the step buffer t, and their lines fit into b
+pub record Room (b : List ℕ) (n : ℕ) (t : List ℕ) : Type 0 where
+  pub few : n ≤ 7940
+  pub steps : 5 * n ≤ length t
   pub lines : listingBytes ≤ length b
 
 -- a buffer that is shorter is left as it was; else the listing stands at its front, and the rest keeps its bytes

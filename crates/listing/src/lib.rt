@@ -1,9 +1,9 @@
 // The printed answer, as bytes in a lent buffer.
 ghost use mathlib.Core.Path.{_≡_};
-ghost use mathlib.Core.List.{[], _∷_};
+ghost use mathlib.Core.List.{[], _∷_, _++_};
 ghost use Prim.Native.Nat.{_+_, _*_, _≤_, _<_};
 ghost use lib.ListN.{length, take};
-ghost use Rattle.listing.specs.Listing.{decimal, spaced, head, blanksOf, stepLine, line, lines, printed};
+ghost use Rattle.listing.specs.Listing.{unsafeWord, decimal, spaced, head, blanksOf, stepLine, line, lines, printed};
 ghost use Rattle.listing.specs.Writing.{Put, PutWithin, shownActual, Room};
 ghost use Rattle.trace.specs.Traces.{callAt, calls};
 ghost use Rattle.safety.specs.Judgement.{stepsWritten};
@@ -100,7 +100,16 @@ fn put_step(out: &mut [u8], at: usize, p: Policy, steps: &[u8], i: usize) -> usi
     let from = 5 * i;
     let rule = steps[from];
     let k = blanks_of(p, rule);
-    put_line(out, at, k, rule, steps[from + 1], steps[from + 2], steps[from + 3], steps[from + 4])
+    put_line(
+        out,
+        at,
+        k,
+        rule,
+        steps[from + 1],
+        steps[from + 2],
+        steps[from + 3],
+        steps[from + 4],
+    )
 }
 
 // The lines of the first n steps.
@@ -125,17 +134,23 @@ fn put_head(out: &mut [u8], word: &[u8], n: usize) -> usize
     put_byte(out, b, b'\n')
 }
 
+// The answer `UNSAFE n`, with the lines of the n steps.
+fn print_unsafe(out: &mut [u8], n: usize, p: Policy, steps: &[u8]) -> usize
+    requires { ⌜ Room (now out) n (now steps) ⌝ }
+    ensures { λ r. ⌜ Put (now (out .entry)) 0 (head unsafeWord n ++ lines p (calls (now (steps .entry)) n)) r (now (out .exit)) ⌝ }
+{
+    let at = put_head(out, b"UNSAFE ", n);
+    put_lines(out, at, p, steps, n)
+}
+
 // The whole answer, given the judgement and the steps that it wrote.
 fn print(out: &mut [u8], judgement: Judgement, p: Policy, steps: &[u8]) -> usize
-    requires { ⌜ Room (now out) judgement (now steps) ⌝ }
+    requires { ⌜ Room (now out) (stepsWritten judgement) (now steps) ⌝ }
     ensures { λ r. ⌜ Put (now (out .entry)) 0 (printed p judgement (calls (now (steps .entry)) (stepsWritten judgement))) r (now (out .exit)) ⌝ }
 {
     match judgement {
         Judgement::Refused(n) => put_head(out, b"REFUSED ", n as usize),
         Judgement::Safe(n) => put_head(out, b"SAFE ", n),
-        Judgement::Unsafe(n) => {
-            let at = put_head(out, b"UNSAFE ", n);
-            put_lines(out, at, p, steps, n)
-        }
+        Judgement::Unsafe(n) => print_unsafe(out, n, p, steps),
     }
 }
