@@ -18,6 +18,9 @@ use Rattle.listing.proofs.Written.{byte-digits, count-digits, put-then}
 pub refused-room : (b : List ℕ) (n : ℕ) → n < 256 → listingBytes ≤ length b → 8 + length (decimal n) < length b
 refused-room b n h k = let z = byte-digits n h in omega arith
 
+pub empty-room : (b : List ℕ) → listingBytes ≤ length b → 8 + length (decimal 1) < length b
+empty-room b k = refused-room b 1 (omega arith) k
+
 pub safe-room : (b t : List ℕ) (j : Judgement) (n : ℕ) → Room b (stepsWritten j) t → j ≡ Safe n → 5 + length (decimal n) < length b
 safe-room b t j n R e = let R' : Room b n t = subst (λ (x : Judgement). Room b (stepsWritten x) t) e R in let z = count-digits n (R' .few) in let l = R' .lines in omega arith
 

@@ -3,8 +3,8 @@ ghost use mathlib.Core.Path.{_≡_};
 ghost use mathlib.Core.List.{[], _∷_, _++_};
 ghost use Prim.Native.Nat.{_+_, _*_, _≤_, _<_};
 ghost use lib.ListN.{length, take};
-ghost use Rattle.listing.specs.Listing.{unsafeWord, decimal, spaced, head, blanksOf, stepLine, line, lines, printed};
-ghost use Rattle.listing.specs.Writing.{Put, PutWithin, shownActual, Room};
+ghost use Rattle.listing.specs.Listing.{unsafeWord, decimal, spaced, head, blanksOf, stepLine, line, lines, printed, bufferBytes, listing};
+ghost use Rattle.listing.specs.Writing.{Put, PutWithin, shownActual, Room, listingBytes, Answered};
 ghost use Rattle.trace.specs.Traces.{callAt, calls};
 ghost use Rattle.safety.specs.Judgement.{stepsWritten};
 use policy::Policy;
@@ -153,4 +153,36 @@ fn print(out: &mut [u8], judgement: Judgement, p: Policy, steps: &[u8]) -> usize
         Judgement::Safe(n) => put_head(out, b"SAFE ", n),
         Judgement::Unsafe(n) => print_unsafe(out, n, p, steps),
     }
+}
+
+// Long enough for every accepted file of at most 30 names.
+fn step_buffer() -> [u8; 39700]
+    ensures { λ r. ⌜ length r ≡ bufferBytes ⌝ }
+{
+    [0u8; 39700]
+}
+
+fn answer_file(out: &mut [u8], file: &[u8], right: u8) -> usize
+    requires { ⌜ listingBytes ≤ length (now out) ⌝ }
+    ensures { λ r. ⌜ Put (now (out .entry)) 0 (listing (right ∷ now (file .entry))) r (now (out .exit)) ⌝ }
+{
+    let mut steps = step_buffer();
+    let judgement = safety::judge_file(file, right, &mut steps);
+    let read = policy::read_policy(file);
+    let p = read.policy;
+    print(out, judgement, p, &steps)
+}
+
+// The answer to the desk program's input: the right, then a file. It stands at the front of out, and its length is handed back; 0 where out is too short.
+pub fn answer(input: &[u8], out: &mut [u8]) -> usize
+    ensures { λ r. ⌜ Answered (now (input .entry)) (now (out .entry)) r (now (out .exit)) ⌝ }
+{
+    if out.len() < 158812 {
+        return 0;
+    }
+    if input.len() == 0 {
+        return put_head(out, b"REFUSED ", 1);
+    }
+    let right = input[0];
+    answer_file(out, &input[1..], right)
 }

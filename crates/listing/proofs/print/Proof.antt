@@ -2,68 +2,49 @@ use Rattle.listing.proofs.Whole.{refused-room, safe-room, unsafe-fits, 
 use borrow.Author.Needs.{needs}
 use Rattle.listing.proofs.print.Statement.{statement}
 use Rattle.listing.proofs.print.Tie as tie
-use Rattle.listing.proofs.print.Reads as reads
-use Rattle.listing.proofs.print.Lts as lts
-use Rattle.listing.proofs.print_unsafe.Reads as print-unsafe-reads
-use Rattle.listing.proofs.put_head.Reads as put-head-reads
 
--- src/lib.rt:143:28
 enum-known-judgement : tie.Need-enum-known-judgement
 enum-known-judgement c = search needs
 
--- src/lib.rt:143:48
 slice-aggregate-put-head : tie.Need-slice-aggregate-put-head
 slice-aggregate-put-head c = search needs
 
--- src/lib.rt:143:61
 cast-put-head : tie.Need-cast-put-head
 cast-put-head c = search needs
 
--- src/lib.rt:143:34
 put-head-requires : tie.Need-put-head-requires
 put-head-requires c κs = search refused-room
 
--- src/lib.rt:144:25
 enum-known-judgement-2 : tie.Need-enum-known-judgement-2
 enum-known-judgement-2 c = search needs
 
--- src/lib.rt:144:45
 slice-aggregate-put-head-2 : tie.Need-slice-aggregate-put-head-2
 slice-aggregate-put-head-2 c = search needs
 
--- src/lib.rt:144:31
 put-head-requires-2 : tie.Need-put-head-requires-2
 put-head-requires-2 c κs = search safe-room
 
--- src/lib.rt:145:27
 enum-known-judgement-3 : tie.Need-enum-known-judgement-3
 enum-known-judgement-3 c = search needs
 
--- src/lib.rt:145:33
 print-unsafe-requires : tie.Need-print-unsafe-requires
 print-unsafe-requires c κs = search unsafe-fits
 
--- src/lib.rt:138:1
 same-length : tie.Need-same-length
 same-length c = search needs
 
--- src/lib.rt:138:1
 returns : tie.Need-returns
 returns c = search refused-put
 
--- src/lib.rt:138:1
 same-length-2 : tie.Need-same-length-2
 same-length-2 c = search needs
 
--- src/lib.rt:138:1
 returns-2 : tie.Need-returns-2
 returns-2 c = search safe-put
 
--- src/lib.rt:138:1
 same-length-3 : tie.Need-same-length-3
 same-length-3 c = search needs
 
--- src/lib.rt:138:1
 returns-3 : tie.Need-returns-3
 returns-3 c = search unsafe-is
 

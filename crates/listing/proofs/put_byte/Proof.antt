@@ -2,22 +2,16 @@ use Rattle.listing.proofs.Written.{put-one}
 use borrow.Author.Needs.{needs}
 use Rattle.listing.proofs.put_byte.Statement.{statement}
 use Rattle.listing.proofs.put_byte.Tie as tie
-use Rattle.listing.proofs.put_byte.Reads as reads
-use Rattle.listing.proofs.put_byte.Lts as lts
 
--- src/lib.rt:22:5
 slice-write-out : tie.Need-slice-write-out
 slice-write-out c = search needs
 
--- src/lib.rt:23:5
 add-result : tie.Need-add-result
 add-result c = search needs
 
--- src/lib.rt:18:1
 same-length : tie.Need-same-length
 same-length c = search needs
 
--- src/lib.rt:18:1
 returns : tie.Need-returns
 returns c = search put-one
 
