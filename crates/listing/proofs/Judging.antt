@@ -8,7 +8,7 @@ use native.Mathlib.Omega.{arith}
 use borrow.Author.Tests.{lt-ltb, le-ltb, ltb-false, eq-eqb, ne-eqb}
 use lib.Dec.{eqb, ltb, leb}
 use lib.ListN.{length, getD, take, drop, length-append}
-use lib.Seq.{getD-append-add, take-all}
+use lib.Seq.{getD-append-add, take-all, length-take-le}
 use Rattle.cases.specs.Cases.{pick, listed, each}
 use Rattle.protection.specs.Limits.{startNames}
 use Rattle.protection.specs.Command.{Call}
@@ -165,3 +165,15 @@ nothing-read (x ∷ l) b b' r h e p = absurd (omega arith)
 pub file-read : (input b b' : List ℕ) (r : ℕ) → listingBytes ≤ length b → (length input ≡ 0 → ⊥) → Put b 0 (listing (getD input 0 0 ∷ take (length input - 1) (drop 1 input))) r b' → Answered input b r b'
 file-read [] b b' r h e p = absurd (e refl)
 file-read (x ∷ l) b b' r h e p = answered (x ∷ l) b b' r h (subst (λ (k : List ℕ). Put b 0 (listing (x ∷ k)) r b') (take-all (suc (length l) - 1) l (omega arith)) p)
+
+-- the answer's bytes are a front part of the buffer
+module _ (input b b' : List ℕ) (r : ℕ) (A : Answered input b r b') where
+  pub answer-within : r ≤ length b'
+  answer-within = go (ltb (length b) listingBytes) (A .count) (A .bytes)
+    where
+      go : (c : Bool) → r ≡ pick c 0 (length (listing input)) → b' ≡ pick c b (over b 0 (listing input)) → r ≤ length b'
+      go true n e = omega arith
+      go false n e = let z = ap length e ∙ length-append (listing input) (drop (0 + length (listing input)) b) in omega arith
+
+  pub answer-front : r ≡ length (take r b')
+  answer-front = sym (length-take-le r b' answer-within)
