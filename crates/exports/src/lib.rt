@@ -46,6 +46,9 @@ pub extern "C" fn access_replay(file: &[u8], steps: &[u8], right: u8, step: &mut
     }
 }
 
+// The judge's code for unsafe.
+const UNSAFE: u8 = 255;
+
 // Judges whether the right can leak: 0 safe, 255 unsafe, both with the number of steps written, else the refusal, with 0 steps.
 #[no_mangle]
 pub extern "C" fn access_judge(file: &[u8], right: u8, buffer: &mut [u8], steps: &mut u64) -> u8
@@ -63,7 +66,7 @@ pub extern "C" fn access_judge(file: &[u8], right: u8, buffer: &mut [u8], steps:
         }
         Judgement::Unsafe(n) => {
             *steps = n as u64;
-            255
+            UNSAFE
         }
     }
 }
