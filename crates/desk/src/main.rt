@@ -1,21 +1,24 @@
 // The desk program: reads the right and a file from standard input and prints the judge's answer.
 ghost use mathlib.Core.Path.{_≡_};
+ghost use Prim.Native.Nat.{_+_};
 ghost use lib.ListN.{length};
+ghost use Rattle.protection.specs.Limits.{fileBytes};
+ghost use Rattle.listing.specs.Writing.{listingBytes};
 use libc::STDIN_FILENO;
 use libc::STDOUT_FILENO;
 
 // The right and one byte more than the longest file: a longer file is refused as one of this length is.
-fn input_buffer() -> [u8; 4098]
-    ensures { λ r. ⌜ 4098 ≡ length r ⌝ }
+fn input_buffer() -> [u8; layout::BYTES + 2]
+    ensures { λ r. ⌜ fileBytes + 2 ≡ length r ⌝ }
 {
-    [0u8; 4098]
+    [0u8; layout::BYTES + 2]
 }
 
 // Room for every listing.
-fn output_buffer() -> [u8; 158812]
-    ensures { λ r. ⌜ 158812 ≡ length r ⌝ }
+fn output_buffer() -> [u8; listing::BYTES]
+    ensures { λ r. ⌜ listingBytes ≡ length r ⌝ }
 {
-    [0u8; 158812]
+    [0u8; listing::BYTES]
 }
 
 fn main() {

@@ -4,6 +4,7 @@ use mathlib.Core.List.{List, [], _∷_, _++_}
 use lib.Dec.{ltb}
 use lib.ListN.{getD, take}
 use Rattle.cases.specs.Cases.{pick}
+use Rattle.protection.specs.Limits.{rights, startNames}
 use Rattle.protection.specs.Command.{Call}
 use Rattle.protection.specs.Judge.{Verdict}
 use Rattle.commands.specs.Contents.{missing}
@@ -71,9 +72,13 @@ printed p (Refused n) xs = head refusedWord n
 printed p (Safe n) xs = head safeWord n
 printed p (Unsafe n) xs = head unsafeWord n ++ lines p xs
 
--- "Its buffer is long enough for every accepted file of at most 30 names": 5 × (g × (subjects + 1) × (names + 2) + 4) with g 8, and 30 names, all subjects
+-- "g × (subjects + 1) × (names + 2) + 4" at its largest: 8 rights, and 30 names, all subjects
+abbrev pub mostSteps : ℕ
+mostSteps = rights * (startNames + 1) * (startNames + 2) + 4
+
+-- "Its buffer is long enough for every accepted file of at most 30 names." The proofs have it as `long-enough`.
 abbrev pub bufferBytes : ℕ
-bufferBytes = 39700
+bufferBytes = 5 * mostSteps
 
 -- "Empty input: `REFUSED 1`."
 abbrev pub listing : List ℕ → List ℕ

@@ -7,7 +7,7 @@ use lib.Dec.{ltb}
 use lib.ListN.{length}
 use Rattle.cases.specs.Cases.{pick}
 use Rattle.policy.specs.Contents.{over}
-use Rattle.listing.specs.Listing.{space, decimal, listing}
+use Rattle.listing.specs.Listing.{space, decimal, mostSteps, listing}
 
 -- the bytes s, written into b from a place on; r is the place behind them
 pub record Put (b : List ℕ) (at : ℕ) (s : List ℕ) (r : ℕ) (b' : List ℕ) : Type 0 where
@@ -23,13 +23,13 @@ pub record PutWithin (most : ℕ) (b : List ℕ) (at : ℕ) (s : List ℕ) (r : 
 abbrev pub shownActual : Bool → ℕ → List ℕ
 shownActual b a = pick b (space ∷ decimal a) []
 
--- room for every listing: a head of at most 12 bytes and 7,940 lines of at most 20
+-- room for every listing: a first line of at most 12 bytes, and at most 20 a step
 abbrev pub listingBytes : ℕ
-listingBytes = 158812
+listingBytes = 12 + 20 * mostSteps
 
 -- n steps are in the step buffer t, and their lines fit into b
 pub record Room (b : List ℕ) (n : ℕ) (t : List ℕ) : Type 0 where
-  pub few : n ≤ 7940
+  pub few : n ≤ mostSteps
   pub steps : 5 * n ≤ length t
   pub lines : listingBytes ≤ length b
 

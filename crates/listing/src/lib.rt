@@ -7,8 +7,15 @@ ghost use Rattle.listing.specs.Listing.{unsafeWord, decimal, spaced, hea
 ghost use Rattle.listing.specs.Writing.{Put, PutWithin, shownActual, Room, listingBytes, Answered};
 ghost use Rattle.trace.specs.Traces.{callAt, calls};
 ghost use Rattle.safety.specs.Judgement.{stepsWritten};
+use matrix::Matrix;
 use policy::Policy;
 use safety::Judgement;
+
+// The most steps that the judge writes for an accepted file of at most 30 names: all rights, and 30 names that are all subjects.
+const STEPS: usize = (Matrix::RIGHTS as usize) * (Matrix::START + 1) * (Matrix::START + 2) + 4;
+
+// Room for every listing: a first line of at most 12 bytes, and at most 20 a step.
+pub const BYTES: usize = 12 + 20 * STEPS;
 
 // Each of these writes from a place on, and answers the place behind what it wrote.
 fn put(out: &mut [u8], at: usize, s: &[u8]) -> usize
@@ -155,11 +162,10 @@ fn print(out: &mut [u8], judgement: Judgement, p: Policy, steps: &[u8]) -> usize
     }
 }
 
-// Long enough for every accepted file of at most 30 names.
-fn step_buffer() -> [u8; 39700]
+fn step_buffer() -> [u8; 5 * STEPS]
     ensures { λ r. ⌜ length r ≡ bufferBytes ⌝ }
 {
-    [0u8; 39700]
+    [0u8; 5 * STEPS]
 }
 
 fn answer_file(out: &mut [u8], file: &[u8], right: u8) -> usize
@@ -177,7 +183,7 @@ fn answer_file(out: &mut [u8], file: &[u8], right: u8) -> usize
 pub fn answer(input: &[u8], out: &mut [u8]) -> usize
     ensures { λ r. ⌜ Answered (now (input .entry)) (now (out .entry)) r (now (out .exit)) ⌝ }
 {
-    if out.len() < 158812 {
+    if out.len() < BYTES {
         return 0;
     }
     if input.len() == 0 {
