@@ -1,6 +1,6 @@
 -- "Its buffer is long enough for every accepted file of at most 30 names." Assumes nothing.
-use Prim.Native.Nat.{ℕ, zero, suc, _+_, _*_, _≤_, _<_}
-use mathlib.Core.Path.{_≡_, refl, sym, _∙_}
+use Prim.Native.Nat.{ℕ, zero, suc, _+_, _*_, _≤_}
+use mathlib.Core.Path.{_≡_, refl}
 use mathlib.Core.Bool.{Bool, true, false}
 use mathlib.Core.List.{List}
 use native.Mathlib.Nat.{mul-le-mul}
@@ -10,10 +10,9 @@ use lib.Dec.{ltb, leb}
 use Rattle.cases.specs.Cases.{pick, each}
 use Rattle.protection.specs.Limits.{names, rights, startNames}
 use Rattle.protection.specs.State.{Kind, absent, object, subject, isObject, isSubject, State, objectIn, subjectIn}
-use Rattle.protection.specs.Judge.{count, subjectsOf, namesOf, stepBound}
-use Rattle.matrix.specs.Matrices.{stateOf}
+use Rattle.protection.specs.Judge.{count, subjectsOf, namesOf}
 use Rattle.policy.specs.Refusals.{refusal}
-use Rattle.policy.specs.Contents.{policyOf, fileState, fileSystem}
+use Rattle.policy.specs.Contents.{policyOf, fileState}
 use Rattle.policy.proofs.Accepted.{accepted}
 use Rattle.safety.specs.Judgement.{oneStep, boundOf, callerRefusal}
 use Rattle.listing.specs.Listing.{bufferBytes}

@@ -1,18 +1,18 @@
 -- What the judge leaves in the step buffer, and the listing that is printed from it. Assumes nothing.
-use Prim.Native.Nat.{ℕ, zero, suc, _+_, _*_, _-_, _≤_, _<_}
+use Prim.Native.Nat.{ℕ, suc, _+_, _*_, _-_, _≤_, _<_}
 use mathlib.Core.Path.{_≡_, refl, sym, ap, ap₂, _∙_, subst}
 use mathlib.Core.Bool.{Bool, true, false}
-use mathlib.Core.List.{List, [], _∷_, _++_, append-assoc, append-nil}
+use mathlib.Core.List.{List, [], _∷_, _++_, append-assoc}
 use native.Mathlib.Decide.{ℕ-discrete}
 use native.Mathlib.Omega.{arith}
 use borrow.Author.Tests.{lt-ltb, le-ltb, ltb-false, eq-eqb, ne-eqb}
-use lib.Dec.{eqb, ltb, leb}
+use lib.Dec.{ltb, leb}
 use lib.ListN.{length, getD, take, drop, length-append}
 use lib.Seq.{getD-append-add, take-all, length-take-le}
 use Rattle.cases.specs.Cases.{pick, listed, each}
 use Rattle.protection.specs.Limits.{startNames}
 use Rattle.protection.specs.Command.{Call}
-use Rattle.protection.specs.Judge.{Verdict, namesOf, stepBound}
+use Rattle.protection.specs.Judge.{namesOf, stepBound}
 use Rattle.matrix.specs.Matrices.{stateOf}
 use Rattle.layout.specs.Refusals.{orElse}
 use Rattle.policy.specs.Refusals.{refusal}
@@ -21,7 +21,7 @@ use Rattle.policy.specs.declared.Policy.{Policy}
 use Rattle.policy.specs.declared.PolicyRead.{PolicyRead}
 use Rattle.policy.proofs.Laws.{read-refusal, read-policy}
 use Rattle.trace.specs.Traces.{callAt, calls}
-use Rattle.safety.specs.Judgement.{oneStep, boundOf, callerRefusal, judgeRefusal, fileVerdict, judgementOf, fileJudgement, stepsWritten, bytesOf, filled, fileBuffer, Judged, Demand3}
+use Rattle.safety.specs.Judgement.{oneStep, boundOf, callerRefusal, judgeRefusal, fileVerdict, judgementOf, fileJudgement, stepsWritten, bytesOf, filled, fileBuffer, Judged}
 use Rattle.safety.specs.declared.Judgement.{Judgement}
 use Rattle.safety.specs.declared.Judgement.the-variants.{Refused, Safe, Unsafe}
 use Rattle.listing.specs.Listing.{head, refusedWord, bufferBytes, printed, listing}

@@ -1,6 +1,6 @@
 -- The lines of the steps in a buffer. Assumes nothing.
-use Prim.Native.Nat.{ℕ, zero, suc, _+_, _*_, _-_, _/_, _≤_, _<_}
-use mathlib.Core.Path.{_≡_, refl, sym, ap, ap₂, _∙_, subst}
+use Prim.Native.Nat.{ℕ, zero, suc, _+_, _*_, _≤_}
+use mathlib.Core.Path.{_≡_, sym, ap, _∙_, subst}
 use mathlib.Core.List.{List, [], _∷_, _++_, map, append-assoc, append-nil}
 use native.Mathlib.Numerals.{add-one}
 use native.Mathlib.Omega.{arith}
@@ -11,7 +11,7 @@ use Rattle.commands.specs.Contents.{missing}
 use Rattle.commands.specs.declared.Command.{Command}
 use Rattle.policy.specs.declared.Policy.{Policy}
 use Rattle.trace.specs.Traces.{callAt, calls}
-use Rattle.listing.specs.Listing.{decimal, blanksOf, line, stepLine, lines}
+use Rattle.listing.specs.Listing.{blanksOf, line, stepLine, lines}
 use Rattle.listing.specs.Writing.{Put, PutWithin}
 use Rattle.listing.proofs.Written.{put-then, put-none}
 

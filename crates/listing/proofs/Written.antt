@@ -1,5 +1,5 @@
 -- Writes one after the other, and the digits of a number. Assumes nothing.
-use Prim.Native.Nat.{ℕ, zero, suc, _+_, _*_, _-_, _/_, _%_, _≤_, _<_}
+use Prim.Native.Nat.{ℕ, zero, suc, _+_, _-_, _/_, _%_, _≤_, _<_}
 use mathlib.Core.Path.{_≡_, refl, sym, ap, ap₂, _∙_, subst}
 use mathlib.Core.Bool.{Bool, true, false, not}
 use mathlib.Core.List.{List, [], _∷_, _++_, append-assoc, append-nil}
@@ -11,7 +11,6 @@ use lib.Dec.{ltb}
 use lib.ListN.{length, take, drop, set, length-append, length-drop, drop-of-length-le, take-append-drop}
 use lib.Seq.{take-all, take-length, take-nil, drop-drop, take-at, drop-at, length-take-le, set-split}
 use native.Mathlib.Numerals.{add-one}
-use Rattle.protection.specs.Command.{Call}
 use Rattle.cases.specs.Cases.{pick}
 use Rattle.policy.specs.Contents.{over}
 use Rattle.listing.specs.Listing.{digits, decimal, space, newline, spaced, line, head}

@@ -6,7 +6,6 @@ use lib.ListN.{getD, take}
 use Rattle.cases.specs.Cases.{pick}
 use Rattle.protection.specs.Limits.{rights, startNames}
 use Rattle.protection.specs.Command.{Call}
-use Rattle.protection.specs.Judge.{Verdict}
 use Rattle.commands.specs.Contents.{missing}
 use Rattle.policy.specs.Contents.{policyOf}
 use Rattle.policy.specs.declared.Policy.{Policy}
