@@ -1,9 +1,14 @@
--- The enum of a replay's answer as the two numbers of the boundary. Assumes nothing.
+-- The enums of a replay's and of the judge's answer as the two numbers of the boundary. Assumes nothing.
 use Prim.Native.Nat.{ℕ}
+use mathlib.Core.List.{List}
+use lib.ListN.{length}
 use mathlib.Core.Path.{_≡_, refl, sym, ap, _∙_, subst}
 use Rattle.trace.specs.declared.Replay.{Replay}
 use Rattle.trace.specs.declared.Replay.the-variants.{NoLeak, Leak, Refused}
-use Rattle.exports.specs.Boundary.{ReplayAnswer}
+use Rattle.safety.specs.Judgement.{fileJudgement, judgementCode, stepsWritten, Judged}
+use Rattle.safety.specs.declared.Judgement.{Judgement}
+use Rattle.safety.specs.declared.Judgement.the-variants.{Refused as Refuses, Safe, Unsafe}
+use Rattle.exports.specs.Boundary.{ReplayAnswer, JudgeAnswer}
 
 module _ (a x : Replay) (e : x ≡ a) where
   pub no-leak : x ≡ NoLeak → ReplayAnswer a 0 0
@@ -14,3 +19,18 @@ module _ (a x : Replay) (e : x ≡ a) where
 
   pub refusal : (n i : ℕ) → x ≡ Refused n i → ReplayAnswer a n i
   refusal n i d = subst (λ (w : Replay). ReplayAnswer w n i) (sym d ∙ e) (record { code = refl; at = refl })
+
+module _ (f : List ℕ) (right : ℕ) (b b' : List ℕ) (j : Judgement) (J : Judged f right b j b') where
+  judges : (i : Judgement) → j ≡ i → JudgeAnswer f right b (judgementCode i) (stepsWritten i) b'
+  judges i d =
+      let e : i ≡ fileJudgement f right (length b) = sym d ∙ J .answer-is in
+      record { code = ap judgementCode e; written = ap stepsWritten e; judged = subst (λ (x : Judgement). Judged f right b x b') (J .answer-is) J }
+
+  pub judge-refuses : (n : ℕ) → j ≡ Refuses n → JudgeAnswer f right b n 0 b'
+  judge-refuses n = judges (Refuses n)
+
+  pub judge-safe : (n : ℕ) → j ≡ Safe n → JudgeAnswer f right b 0 n b'
+  judge-safe n = judges (Safe n)
+
+  pub judge-unsafe : (n : ℕ) → j ≡ Unsafe n → JudgeAnswer f right b 255 n b'
+  judge-unsafe n = judges (Unsafe n)

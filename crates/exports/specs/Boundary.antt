@@ -1,9 +1,18 @@
 -- Answers as numbers at the C boundary.
 use Prim.Native.Nat.{ℕ}
 use mathlib.Core.Path.{_≡_}
+use mathlib.Core.List.{List}
+use lib.ListN.{length}
 use Rattle.trace.specs.Replays.{replayCode, replayStep}
 use Rattle.trace.specs.declared.Replay.{Replay}
+use Rattle.safety.specs.Judgement.{fileJudgement, judgementCode, stepsWritten, Judged}
 
 pub record ReplayAnswer (a : Replay) (r step : ℕ) : Type 0 where
   pub code : r ≡ replayCode a
   pub at : step ≡ replayStep a
+
+-- the judge's answer, its count of steps, the buffer b' after it, and demand 3
+pub record JudgeAnswer (f : List ℕ) (right : ℕ) (b : List ℕ) (r steps : ℕ) (b' : List ℕ) : Type 0 where
+  pub code : r ≡ judgementCode (fileJudgement f right (length b))
+  pub written : steps ≡ stepsWritten (fileJudgement f right (length b))
+  pub judged : Judged f right b (fileJudgement f right (length b)) b'

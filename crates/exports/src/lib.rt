@@ -3,7 +3,8 @@ ghost use mathlib.Core.Path.{_≡_};
 ghost use Rattle.policy.specs.Refusals.{refusal};
 ghost use Rattle.update.specs.Files.{FileRun};
 ghost use Rattle.trace.specs.Replays.{fileReplay};
-ghost use Rattle.exports.specs.Boundary.{ReplayAnswer};
+ghost use Rattle.exports.specs.Boundary.{ReplayAnswer, JudgeAnswer};
+use safety::Judgement;
 use trace::Replay;
 
 // The refusal of whoever wrote the file, 1 to 9, or 0.
@@ -41,6 +42,31 @@ pub extern "C" fn access_replay(file: &[u8], steps: &[u8], right: u8, step: &mut
         Replay::Refused { by, step: i } => {
             *step = i as u64;
             by
+        }
+    }
+}
+
+// The judge's code for unsafe.
+const UNSAFE: u8 = 255;
+
+// Judges whether the right can leak: 0 safe, 255 unsafe, both with the number of steps written, else the refusal, with 0 steps.
+#[no_mangle]
+pub extern "C" fn access_judge(file: &[u8], right: u8, buffer: &mut [u8], steps: &mut u64) -> u8
+    ensures { λ r. ⌜ JudgeAnswer (now (file .entry)) right (now (buffer .entry)) r (now (steps .exit)) (now (buffer .exit)) ⌝ }
+{
+    let judgement = safety::judge_file(file, right, buffer);
+    match judgement {
+        Judgement::Refused(n) => {
+            *steps = 0;
+            n
+        }
+        Judgement::Safe(n) => {
+            *steps = n as u64;
+            0
+        }
+        Judgement::Unsafe(n) => {
+            *steps = n as u64;
+            UNSAFE
         }
     }
 }
