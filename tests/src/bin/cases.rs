@@ -10,7 +10,7 @@ use reference::machine::{numbers, run, run_file, AccessMatrix, Bounded, Unbounde
 use reference::random::Random;
 use reference::replay::{replay, LEAK};
 use reference::report::{hex, Arguments, Group, Report};
-use reference::{second, stored};
+use reference::{second, stored, table};
 
 /// A draft with these kinds and these rights in cells.
 fn draft(rights: u8, kinds: &[(usize, u8)], cells: &[(usize, usize, u8)]) -> Draft {
@@ -163,6 +163,18 @@ fn main() {
             Err(wrong) => group.demand(false, || wrong),
         },
     );
+
+    report.group("the example file is its text's", 1, |group| {
+        let file = std::fs::read("../tables/vermilion.file");
+        let text = std::fs::read_to_string("../tables/vermilion.table");
+        match (file, text) {
+            (Ok(file), Ok(text)) => {
+                let wanted = table::input(&text).map(|input| input[1..].to_vec());
+                same(group, Ok(file), wanted);
+            }
+            wrong => group.demand(false, || format!("{wrong:?}")),
+        }
+    });
 
     report.group("P9 and P10", 4, |group| {
         for (draft, actuals) in [(p9(), [0, 0, 255, 255]), (p10(), [0, 255, 255, 255])] {

@@ -144,6 +144,17 @@ fn main() {
         }
     });
 
+    // What tables/README.md says of the example.
+    report.group("the example file", 2, |group| {
+        let file = fs::read("../tables/vermilion.file").unwrap_or_default();
+        let unsafe_steps = "UNSAFE 3\n0 0 1 3\n1 1 2 3\n3 2 3\n";
+        for (right, wanted) in [(3, unsafe_steps), (0, "SAFE 3\n")] {
+            let input = [vec![right], file.clone()].concat();
+            let answer = desk_program.answer(&input);
+            same(group, answer, wanted.as_bytes(), &input);
+        }
+    });
+
     report.group("generated inputs", 600, |group| {
         let mut first_words = [0; 3];
         while group.inputs < 600 {
