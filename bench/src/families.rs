@@ -132,14 +132,14 @@ fn by_chance(random: &mut Random, shape: &Shape) -> (Draft, u8) {
 
 /// The first table by chance whose answer is wanted.
 fn wanted(random: &mut Random, shape: &Shape, is_wanted: impl Fn(&Answer) -> bool) -> (Draft, u8) {
-    for _ in 0..100_000 {
+    for _ in 0..200 {
         let (draft, right) = by_chance(random, shape);
         let contents = file::read(&draft.file()).expect("accepted");
         if is_wanted(&pruned::judge(&Table::new(&contents), 1 << right)) {
             return (draft, right);
         }
     }
-    panic!("no such table in 100,000");
+    panic!("no such table in 200");
 }
 
 const LINK: u8 = 7;
@@ -206,7 +206,7 @@ fn grid(names: usize, tokens: u8, leaks: bool) -> (Draft, u8) {
 fn ballast(names: usize, tokens: u8) -> (Draft, u8) {
     let (mut draft, right) = grid(names, tokens, true);
     let conditions = [[0, 0, 1], [0, 1, 2], [0, 2, 3], [END, 3, 0]];
-    while draft.rules.len() < 32 {
+    while draft.rules.len() < 24 {
         draft
             .rules
             .push(rule(4, &conditions, &[[ENTER, END, 3, 0]]));
@@ -254,7 +254,7 @@ pub fn all(seed: u64) -> Vec<Sample> {
         Sample::new("typical", "unsafe", wanted(random, &TYPICAL, by_rounds)),
     ];
     let rounds = |answer: &Answer| !answer.is_unsafe && answer.rounds >= 4;
-    let late = |answer: &Answer| answer.is_unsafe && answer.rounds >= 2;
+    let late = |answer: &Answer| answer.is_unsafe && answer.steps.len() >= 100;
     for (family, shape) in [("large", &LARGE), ("dense", &DENSE), ("wide", &WIDE)] {
         samples.push(Sample::new(family, "safe", wanted(random, shape, safe)));
         samples.push(Sample::new(family, "rounds", wanted(random, shape, rounds)));

@@ -18,6 +18,13 @@ use std::{env, process};
 
 const SEED: u64 = 20_260_101;
 
+/// Callgrind takes some sixty times as long: what takes longer than `LONG` is
+/// counted for rounds that take `SHORT` together, and no count takes longer
+/// than `CALLGRIND`.
+const LONG: Duration = Duration::from_millis(100);
+const SHORT: Duration = Duration::from_millis(30);
+const CALLGRIND: Duration = Duration::from_secs(60);
+
 struct Bench {
     folder: PathBuf,
     plain: PathBuf,
@@ -102,16 +109,16 @@ fn time(program: &Path, input: &Path, limit: Duration, wanted: &str) -> Option<D
     best
 }
 
-/// The instructions that callgrind counts; None past the limit.
-fn instructions(program: &Path, words: &[String], input: &Path, limit: Duration) -> Option<u64> {
+/// The instructions that callgrind counts; None past its limit.
+fn instructions(program: &Path, rounds: Option<u64>, input: &Path) -> Option<u64> {
     let counts = input.with_extension("callgrind");
     let mut command = Command::new("valgrind");
     command
         .arg("--tool=callgrind")
         .arg(format!("--callgrind-out-file={}", counts.display()))
         .arg(program)
-        .args(words);
-    match run(&mut command, input, limit) {
+        .args(rounds.map(|rounds| rounds.to_string()));
+    match run(&mut command, input, CALLGRIND) {
         Run::TooLong => None,
         Run::Ended(..) => {
             let text = fs::read_to_string(&counts).unwrap_or_default();
@@ -162,15 +169,18 @@ impl Bench {
         answer: &Answer,
         took: Option<Duration>,
     ) -> (Option<u64>, &'static str) {
-        let took = took.unwrap_or(self.limit);
-        let round = took.as_secs_f64() / answer.rounds as f64;
-        let rounds = (0.2 / round).ceil().max(2.0) as u64;
-        if rounds >= answer.rounds {
-            let count = instructions(&self.plain, &[], input, 10 * self.limit);
-            return (count, "");
+        if took.is_some_and(|took| took < LONG) {
+            return (instructions(&self.plain, None, input), "");
         }
-        let words = [rounds.to_string()];
-        let count = instructions(&self.plain, &words, input, 10 * self.limit);
+        // How long a round takes, by the first five.
+        let mut command = Command::new(&self.plain);
+        command.arg("5");
+        let Run::Ended(_, five) = run(&mut command, input, self.limit) else {
+            return (None, "");
+        };
+        let rounds = 5.0 * SHORT.as_secs_f64() / five.as_secs_f64();
+        let rounds = (rounds.ceil() as u64).min(answer.rounds);
+        let count = instructions(&self.plain, Some(rounds), input);
         (count.map(|count| count * answer.rounds / rounds), "~")
     }
 }
@@ -244,7 +254,7 @@ fn main() {
         let Some(took) = time(program, &empty, bench.limit, "REFUSED 1\n") else {
             fail("an empty input takes too long");
         };
-        let Some(count) = instructions(program, &[], &empty, bench.limit) else {
+        let Some(count) = instructions(program, None, &empty) else {
             fail("callgrind takes too long");
         };
         starts.push(count);
@@ -269,10 +279,7 @@ fn main() {
 
         let desk_time = time(desk, &input, bench.limit, &wanted);
         let plain_time = time(plain, &input, bench.limit, &wanted);
-        let desk_count = match desk_time {
-            Some(_) => instructions(desk, &[], &input, 10 * bench.limit),
-            None => None,
-        };
+        let desk_count = desk_time.and_then(|_| instructions(desk, None, &input));
         let (plain_count, about) = bench.plain_count(&input, &answer, plain_time);
         let desk_count = desk_count.map(|count| count.saturating_sub(starts[0]).max(1));
         let plain_count = plain_count.map(|count| count.saturating_sub(starts[1]).max(1));
