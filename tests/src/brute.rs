@@ -221,9 +221,19 @@ pub enum Found {
     TooMany,
 }
 
+/// What a search found, and what it came by on its way.
+pub struct Search {
+    pub found: Found,
+    pub states: usize,
+    /// Rule runs refused.
+    pub refused: u64,
+    pub destroyed: bool,
+    /// A name of the start was destroyed and created anew.
+    pub recreated: bool,
+}
+
 /// Searches over the start's names and `further` absent ones.
-/// Also gives the number of states seen.
-pub fn search(contents: &Contents, right: u8, further: usize, limit: usize) -> (Found, usize) {
+pub fn search(contents: &Contents, right: u8, further: usize, limit: usize) -> Search {
     assert!(contents.rights as usize <= RIGHTS);
     let matrix = &contents.matrix;
     let mut pool = matrix.names();
@@ -234,25 +244,41 @@ pub fn search(contents: &Contents, right: u8, further: usize, limit: usize) -> (
     let mut seen: HashSet<State, BuildHasherDefault<Mixer>> = HashSet::default();
     seen.insert(start);
     let mut waiting = vec![start];
+    let mut search = Search {
+        found: Found::NoLeak,
+        states: 1,
+        refused: 0,
+        destroyed: false,
+        recreated: false,
+    };
     while let Some(state) = waiting.pop() {
         for instance in &instances {
             let after = match instance.run(&state) {
-                Move::Refused => continue,
+                // The state stays, so a refused run adds none.
+                Move::Refused => {
+                    search.refused += 1;
+                    continue;
+                }
                 Move::Leak(leaked, _) if leaked == right as usize => {
-                    return (Found::Leak, seen.len())
+                    search.found = Found::Leak;
+                    return search;
                 }
                 Move::Leak(_, after) => after,
                 Move::To(after) => after,
             };
+            search.destroyed |= state.exists & !after.exists != 0;
+            search.recreated |= after.exists & !state.exists & start.exists != 0;
             if seen.insert(after) {
-                if seen.len() > limit {
-                    return (Found::TooMany, seen.len());
+                search.states += 1;
+                if search.states > limit {
+                    search.found = Found::TooMany;
+                    return search;
                 }
                 waiting.push(after);
             }
         }
     }
-    (Found::NoLeak, seen.len())
+    search
 }
 
 /// A quick hash; the standard one takes most of the search's time.

@@ -13,4 +13,6 @@ pub mod random;
 pub mod replay;
 pub mod report;
 pub mod second;
+pub mod stored;
+pub mod table;
 pub mod verdict;

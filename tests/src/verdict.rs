@@ -4,11 +4,17 @@
 use crate::file;
 use crate::judge::{judge, most_steps, Account, SAFE, UNSAFE};
 use crate::random::Random;
-use crate::replay::{play_unbounded, Outcome};
+use crate::replay::{play_unbounded, Outcome, LEAK};
 use crate::report::{hex, Group};
 
-/// File, right and buffer to the answer and the number of steps.
-pub type Judge = fn(&[u8], u8, &mut [u8]) -> (u8, u64);
+/// What is under test: the judge, and the replay that its steps must pass.
+#[derive(Clone, Copy)]
+pub struct Library {
+    /// File, right and buffer to the answer and the number of steps.
+    pub judge: fn(&[u8], u8, &mut [u8]) -> (u8, u64),
+    /// File, trace and right to the answer and the step.
+    pub replay: fn(&[u8], &[u8], u8) -> (u8, u64),
+}
 
 /// The length that 24 lets just pass, for an accepted file.
 pub fn needed(file: &[u8]) -> usize {
@@ -20,13 +26,13 @@ pub fn needed(file: &[u8]) -> usize {
 /// bytes behind them are those from before. The reference judge has no part.
 fn call(
     group: &mut Group,
-    under_test: Judge,
+    under_test: Library,
     file: &[u8],
     right: u8,
     buffer: &mut [u8],
 ) -> (u8, u64) {
     let (file_before, before) = (file.to_vec(), buffer.to_vec());
-    let (code, steps) = under_test(file, right, buffer);
+    let (code, steps) = (under_test.judge)(file, right, buffer);
     group.demand(file == file_before, || {
         format!("file changed, it was {}", hex(&file_before))
     });
@@ -66,6 +72,21 @@ fn call(
             about()
         )
     });
+    // The library's own replay says the same, and no leak one step sooner.
+    let sooner = end.saturating_sub(5);
+    let replayed = (under_test.replay)(file, &buffer[..end], right);
+    let cut = (under_test.replay)(file, &buffer[..sooner], right);
+    let wanted = match code {
+        SAFE => (0, 0),
+        _ => (LEAK, steps.wrapping_sub(1)),
+    };
+    group.demand(replayed == wanted && cut == (0, 0), || {
+        format!(
+            "the library replays the steps {} as {replayed:?}, without the last as {cut:?}: {}",
+            hex(&buffer[..end]),
+            about()
+        )
+    });
     (code, steps)
 }
 
@@ -73,7 +94,7 @@ fn call(
 /// Gives the reference's account and the answer of the judge under test.
 pub fn compare(
     group: &mut Group,
-    under_test: Judge,
+    under_test: Library,
     random: &mut Random,
     file: &[u8],
     right: u8,

@@ -10,7 +10,7 @@ use reference::machine::{numbers, run, run_file, AccessMatrix, Bounded, Unbounde
 use reference::random::Random;
 use reference::replay::{replay, LEAK};
 use reference::report::{hex, Arguments, Group, Report};
-use reference::second;
+use reference::{second, stored, table};
 
 /// A draft with these kinds and these rights in cells.
 fn draft(rights: u8, kinds: &[(usize, u8)], cells: &[(usize, usize, u8)]) -> Draft {
@@ -148,6 +148,34 @@ fn main() {
         same(group, printed(&p1(), 2), text("REFUSED 21\n"));
     });
 
+    report.group(
+        "stored outputs of the desk program",
+        50,
+        |group| match stored::cases("desk") {
+            Ok(cases) => {
+                for case in cases {
+                    let (given, wanted) = (desk(&case.input), case.wanted);
+                    group.input(given.as_bytes() == wanted, || {
+                        format!("{}: reference {given:?}", case.name)
+                    });
+                }
+            }
+            Err(wrong) => group.demand(false, || wrong),
+        },
+    );
+
+    report.group("the example file is its text's", 1, |group| {
+        let file = std::fs::read("../tables/vermilion.file");
+        let text = std::fs::read_to_string("../tables/vermilion.table");
+        match (file, text) {
+            (Ok(file), Ok(text)) => {
+                let wanted = table::input(&text).map(|input| input[1..].to_vec());
+                same(group, Ok(file), wanted);
+            }
+            wrong => group.demand(false, || format!("{wrong:?}")),
+        }
+    });
+
     report.group("P9 and P10", 4, |group| {
         for (draft, actuals) in [(p9(), [0, 0, 255, 255]), (p10(), [0, 255, 255, 255])] {
             let mut file = draft.file();
@@ -167,7 +195,7 @@ fn main() {
         ];
         for (draft, wanted) in cases {
             let contents = file::read(&draft.file()).unwrap();
-            same(group, brute::search(&contents, 0, 2, 100_000).0, wanted);
+            same(group, brute::search(&contents, 0, 2, 100_000).found, wanted);
         }
     });
 

@@ -2,9 +2,11 @@
 //! and with the reference judge on larger ones.
 
 #[path = "../boundary/judge.rs"]
-mod boundary;
+mod boundary_judge;
+#[path = "../boundary/replay.rs"]
+mod boundary_replay;
 
-use reference::brute::{search, Found};
+use reference::brute::{search, Found, Search};
 use reference::damage::{plant, Fault};
 use reference::file;
 use reference::generate::*;
@@ -12,17 +14,23 @@ use reference::judge::{SAFE, UNSAFE};
 use reference::random::Random;
 use reference::report::{hex, Arguments, Counts, Report};
 use reference::second;
-use reference::verdict::{compare, needed, Judge};
+use reference::verdict::{compare, needed, Library};
 
 /// More states than this are given up; nothing is known of such a table.
 const LIMIT: usize = 3_000;
 
 fn main() {
     let arguments = Arguments::read("judge");
-    let judge: Judge = if arguments.own {
-        second::judge
+    let library = if arguments.own {
+        Library {
+            judge: second::judge,
+            replay: second::replay,
+        }
     } else {
-        boundary::judge
+        Library {
+            judge: boundary_judge::judge,
+            replay: boundary_replay::replay,
+        }
     };
     let mut random = Random::new(arguments.seed);
     let random = &mut random;
@@ -32,9 +40,9 @@ fn main() {
     report.group("P1 to P8", 9, |group| {
         let mut try_case = |draft: &Draft, right: u8, length: usize, code: u8, steps: &[u8]| {
             let file = draft.file();
-            let (account, _) = compare(group, judge, random, &file, right, length);
+            let (account, _) = compare(group, library, random, &file, right, length);
             let mut buffer = vec![0; length];
-            let answer = judge(&file, right, &mut buffer);
+            let answer = (library.judge)(&file, right, &mut buffer);
             let good = answer == (code, steps.len() as u64 / 5)
                 && account.code == code
                 && buffer.starts_with(steps);
@@ -80,7 +88,8 @@ fn main() {
     report.group("brute search on tiny tables", 24_000, |group| {
         let (mut safe, mut by_rounds, mut by_closing) = (0, 0, 0);
         let (mut dull, mut unknown, mut pools) = (0, 0, [0; 2]);
-        let (mut states, mut most) = (0, 0);
+        let (mut all_states, mut most) = (0, 0);
+        let (mut destroyed, mut recreated, mut with_refused) = (0, 0, 0);
         while group.inputs < 24_000 {
             let draft = small(random);
             let file = draft.file();
@@ -88,30 +97,34 @@ fn main() {
             let right = if random.percent(80) { 0 } else { draft.rights - 1 };
             // Three further names if that can be exhausted, else two.
             let mut further = 3;
-            let (mut found, mut seen) = search(&contents, right, further, LIMIT);
-            if found == Found::TooMany {
+            let mut brute = search(&contents, right, further, LIMIT);
+            if brute.found == Found::TooMany {
                 further = 2;
-                (found, seen) = search(&contents, right, further, LIMIT);
+                brute = search(&contents, right, further, LIMIT);
             }
+            let Search { found, states, .. } = brute;
             if found == Found::TooMany {
                 unknown += 1;
                 continue;
             }
             // Tables where next to nothing can happen are mostly left out.
-            if found == Found::NoLeak && seen < 12 && !random.percent(20) {
+            if found == Found::NoLeak && states < 12 && !random.percent(20) {
                 dull += 1;
                 continue;
             }
             pools[further - 2] += 1;
-            states += seen;
-            most = most.max(seen);
+            all_states += states;
+            most = most.max(states);
+            destroyed += u64::from(brute.destroyed);
+            recreated += u64::from(brute.recreated);
+            with_refused += u64::from(brute.refused > 0);
 
             let wanted = if found == Found::Leak { UNSAFE } else { SAFE };
             let length = needed(&file) + random.below(7);
-            let (account, answer) = compare(group, judge, random, &file, right, length);
+            let (account, answer) = compare(group, library, random, &file, right, length);
             group.demand(answer == wanted, || {
                 format!(
-                    "answer {answer}, brute search {found:?} with {seen} states, right {right}, {}",
+                    "answer {answer}, brute search {found:?} with {states} states, right {right}, {}",
                     hex(&file)
                 )
             });
@@ -126,9 +139,15 @@ fn main() {
             "  safe {safe}, unsafe in a round {by_rounds}, unsafe by the closing search {by_closing}"
         );
         println!(
-            "  three further names {}, two {}; {states} states, at most {most}; not exhausted {unknown}, left out {dull}",
+            "  three further names {}, two {}; {all_states} states, at most {most}; not exhausted {unknown}, left out {dull}",
             pools[1], pools[0]
         );
+        println!(
+            "  with a destroy {destroyed}, a name created anew {recreated}, a refused run {with_refused}"
+        );
+        group.demand(destroyed >= 2_000, || format!("only {destroyed} with a destroy"));
+        group.demand(recreated >= 1_000, || format!("only {recreated} with a name created anew"));
+        group.demand(with_refused >= 10_000, || format!("only {with_refused} with a refused run"));
         group.demand(safe >= 8_000, || format!("only {safe} safe"));
         group.demand(by_rounds >= 2_500, || format!("only {by_rounds} unsafe in a round"));
         group.demand(by_closing >= 1_500, || format!("only {by_closing} by the closing search"));
@@ -142,7 +161,7 @@ fn main() {
             let (draft, right) = large(random);
             let file = draft.file();
             let length = needed(&file) + random.pick(&[0, 0, 1, 4, 5, 1000]);
-            let (account, _) = compare(group, judge, random, &file, right, length);
+            let (account, _) = compare(group, library, random, &file, right, length);
             match (account.code, account.closing) {
                 (UNSAFE, true) => by_closing += 1,
                 (UNSAFE, false) => by_rounds += 1,
@@ -179,7 +198,7 @@ fn main() {
                 draft.rules.insert(place, section);
             }
             let file = draft.file();
-            let (account, _) = compare(group, judge, random, &file, right, needed(&file));
+            let (account, _) = compare(group, library, random, &file, right, needed(&file));
             counts.add(account.code);
             both += u64::from(account.steps >= 2);
         }
@@ -196,14 +215,14 @@ fn main() {
             let file = draft.file();
             let needed = needed(&file);
             for length in [0, 1, random.below(needed), needed - 1] {
-                let (account, _) = compare(group, judge, random, &file, right, length);
+                let (account, _) = compare(group, library, random, &file, right, length);
                 counts.add(account.code);
                 group.demand(account.code == 24, || {
                     format!("{length} bytes: {account:?}")
                 });
             }
             for length in [needed, needed + 1] {
-                let (account, _) = compare(group, judge, random, &file, right, length);
+                let (account, _) = compare(group, library, random, &file, right, length);
                 counts.add(account.code);
                 group.demand(matches!(account.code, SAFE | UNSAFE), || {
                     format!("{length} bytes: {account:?}")
@@ -250,7 +269,7 @@ fn main() {
             let Some(wanted) = wanted else {
                 continue;
             };
-            let (account, _) = compare(group, judge, random, &draft.file(), right, length);
+            let (account, _) = compare(group, library, random, &draft.file(), right, length);
             counts.add(account.code);
             group.demand(account.code == wanted, || {
                 format!("reference {account:?}, {wanted} was planted")
@@ -271,7 +290,7 @@ fn main() {
             };
             let right = random.below(10) as u8;
             let length = random.pick(&[0, 10, 200, 40_000]);
-            let (account, _) = compare(group, judge, random, &file, right, length);
+            let (account, _) = compare(group, library, random, &file, right, length);
             counts.add(account.code);
             group.demand(account.code == fault.refusal(), || {
                 format!("reference {account:?}, {fault:?} was planted")

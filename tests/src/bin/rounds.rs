@@ -3,21 +3,29 @@
 //! Arguments: the seed, and the number of tables (2,000).
 
 #[path = "../boundary/judge.rs"]
-mod boundary;
+mod boundary_judge;
+#[path = "../boundary/replay.rs"]
+mod boundary_replay;
 
 use reference::generate::chain;
 use reference::judge::UNSAFE;
 use reference::random::Random;
 use reference::report::{Arguments, Report};
 use reference::second;
-use reference::verdict::{compare, needed, Judge};
+use reference::verdict::{compare, needed, Library};
 
 fn main() {
     let arguments = Arguments::read("rounds");
-    let judge: Judge = if arguments.own {
-        second::judge
+    let library = if arguments.own {
+        Library {
+            judge: second::judge,
+            replay: second::replay,
+        }
     } else {
-        boundary::judge
+        Library {
+            judge: boundary_judge::judge,
+            replay: boundary_replay::replay,
+        }
     };
     let tables = arguments.number.unwrap_or(2_000);
     let mut random = Random::new(arguments.seed);
@@ -30,7 +38,7 @@ fn main() {
         while group.inputs < tables {
             let (draft, right) = chain(random);
             let file = draft.file();
-            let (account, _) = compare(group, judge, random, &file, right, needed(&file));
+            let (account, _) = compare(group, library, random, &file, right, needed(&file));
             match (account.code, account.closing) {
                 (UNSAFE, true) => by_closing += 1,
                 (UNSAFE, false) => by_rounds += 1,

@@ -1,0 +1,276 @@
+//! The benchmark's tables, by family. All are made from one seed.
+
+use crate::pruned;
+use crate::table::{Answer, Table};
+use reference::file;
+use reference::generate::{
+    rule, Draft, CREATE_OBJECT, CREATE_SUBJECT, DELETE, DESTROY_OBJECT, DESTROY_SUBJECT, ENTER,
+};
+use reference::random::Random;
+
+pub struct Sample {
+    pub family: &'static str,
+    pub name: String,
+    pub draft: Draft,
+    pub right: u8,
+}
+
+impl Sample {
+    fn new(family: &'static str, name: &str, (draft, right): (Draft, u8)) -> Sample {
+        Sample {
+            family,
+            name: format!("{family}-{name}"),
+            draft,
+            right,
+        }
+    }
+}
+
+/// Tables by chance: how many names and rules, and what the rules are like.
+struct Shape {
+    rights: u8,
+    names: usize,
+    subjects: usize,
+    /// Percent of the rights that stand in cells.
+    density: usize,
+    rules: usize,
+    blanks: (usize, usize),
+    conditions: (usize, usize),
+    /// How many blanks conditions and steps may name.
+    named: usize,
+}
+
+const TYPICAL: Shape = Shape {
+    rights: 5,
+    names: 12,
+    subjects: 8,
+    density: 8,
+    rules: 10,
+    blanks: (2, 3),
+    conditions: (1, 2),
+    named: 3,
+};
+
+const LARGE: Shape = Shape {
+    rights: 8,
+    names: 30,
+    subjects: 24,
+    density: 3,
+    rules: 32,
+    blanks: (3, 4),
+    conditions: (1, 4),
+    named: 4,
+};
+
+const DENSE: Shape = Shape {
+    density: 60,
+    conditions: (2, 4),
+    ..LARGE
+};
+
+const WIDE: Shape = Shape {
+    blanks: (4, 4),
+    conditions: (1, 2),
+    named: 2,
+    ..LARGE
+};
+
+/// Right 0 is asked for; it stands in some cells and few rules enter it.
+fn by_chance(random: &mut Random, shape: &Shape) -> (Draft, u8) {
+    let mut draft = Draft::empty(shape.rights);
+    for name in 0..shape.names {
+        draft.kinds[name] = if name < shape.subjects { 2 } else { 1 };
+    }
+    for s in 0..shape.subjects {
+        for o in 0..shape.names {
+            for right in 0..shape.rights {
+                if random.percent(shape.density) {
+                    draft.put(s, o, right);
+                }
+            }
+        }
+    }
+    for number in 0..shape.rules {
+        let blanks = random.between(shape.blanks.0, shape.blanks.1) as u8;
+        let named = shape.named.min(blanks as usize);
+        // Any of the blanks may be those that nothing names.
+        let shift = random.below(blanks as usize);
+        let blank = |random: &mut Random| ((random.below(named) + shift) % blanks as usize) as u8;
+        let kind = match number % 8 {
+            0..=4 => ENTER,
+            5 => DELETE,
+            6 => random.pick(&[CREATE_SUBJECT, CREATE_OBJECT]),
+            _ => random.pick(&[DESTROY_SUBJECT, DESTROY_OBJECT]),
+        };
+        let (first, second) = (blank(random), blank(random));
+        let asked = kind == DELETE && random.percent(50) || random.percent(3);
+        let right = if asked {
+            0
+        } else {
+            random.between(1, shape.rights as usize - 1) as u8
+        };
+        let step = match kind {
+            ENTER | DELETE => [kind, right, first, second],
+            _ => [kind, 0, first, 0],
+        };
+        let mut conditions = Vec::new();
+        let (low, high) = shape.conditions;
+        let count = random.between(low, high);
+        while conditions.len() < count {
+            let tested = random.below(shape.rights as usize) as u8;
+            conditions.push([tested, blank(random), blank(random)]);
+        }
+        if matches!(kind, CREATE_SUBJECT | CREATE_OBJECT) {
+            // A condition on the created blank never holds.
+            conditions.retain(|test| !test[1..].contains(&first));
+        }
+        draft.rules.push(rule(blanks, &conditions, &[step]));
+    }
+    random.shuffle(&mut draft.rules);
+    (draft, 0)
+}
+
+/// The first table by chance whose answer is wanted.
+fn wanted(random: &mut Random, shape: &Shape, is_wanted: impl Fn(&Answer) -> bool) -> (Draft, u8) {
+    for _ in 0..200 {
+        let (draft, right) = by_chance(random, shape);
+        let contents = file::read(&draft.file()).expect("accepted");
+        if is_wanted(&pruned::judge(&Table::new(&contents), 1 << right)) {
+            return (draft, right);
+        }
+    }
+    panic!("no such table in 200");
+}
+
+const LINK: u8 = 7;
+const END: u8 = 6;
+
+/// Names 0 to `names` - 1, subjects all; right 7 links each to the one below,
+/// right 6 marks the last and the first.
+fn descending(names: usize) -> Draft {
+    let mut draft = Draft::empty(8);
+    for name in 0..names {
+        draft.kinds[name] = 2;
+    }
+    for name in 1..names {
+        draft.put(name, name - 1, LINK);
+    }
+    draft.put(0, names - 1, END);
+    draft
+}
+
+/// A token right walks down the diagonal, a round a step, since the place that
+/// uses a step lies before it; then comes the next token.
+fn diagonal(names: usize, tokens: u8) -> (Draft, u8) {
+    let mut draft = descending(names);
+    draft.put(names - 1, names - 1, 0);
+    for token in (0..tokens).rev() {
+        let hand_over = [[token, 0, 0], [END, 0, 1]];
+        let entered = if token + 1 < tokens { token + 1 } else { LINK };
+        draft
+            .rules
+            .push(rule(2, &hand_over, &[[ENTER, entered, 1, 1]]));
+        let walk = [[token, 0, 0], [LINK, 0, 1]];
+        draft.rules.push(rule(2, &walk, &[[ENTER, token, 1, 1]]));
+    }
+    (draft, LINK)
+}
+
+/// A token right walks through all cells, row by row and each row downwards,
+/// a round a step: `tokens` x `names` x `names` rounds. At the end of it all
+/// the linking right leaks, or nothing does.
+fn grid(names: usize, tokens: u8, leaks: bool) -> (Draft, u8) {
+    let mut draft = descending(names);
+    draft.put(names - 1, names - 1, 0);
+    for token in (0..tokens).rev() {
+        if token + 1 < tokens || leaks {
+            let entered = if token + 1 < tokens { token + 1 } else { LINK };
+            let hand_over = [[token, 0, 0], [END, 0, 1]];
+            draft
+                .rules
+                .push(rule(2, &hand_over, &[[ENTER, entered, 1, 1]]));
+        }
+        // From the end (a,c) of row a to the beginning (b,d) of row b.
+        let next_row = [[token, 0, 2], [END, 2, 3], [LINK, 0, 1]];
+        draft
+            .rules
+            .push(rule(4, &next_row, &[[ENTER, token, 1, 3]]));
+        let walk = [[token, 0, 1], [LINK, 1, 2]];
+        draft.rules.push(rule(3, &walk, &[[ENTER, token, 0, 2]]));
+    }
+    (draft, LINK)
+}
+
+/// The same with rules that are allowed at thousands of places in each round
+/// once the first token has been everywhere, and are useful at none.
+fn ballast(names: usize, tokens: u8) -> (Draft, u8) {
+    let (mut draft, right) = grid(names, tokens, true);
+    let conditions = [[0, 0, 1], [0, 1, 2], [0, 2, 3], [END, 3, 0]];
+    while draft.rules.len() < 24 {
+        draft
+            .rules
+            .push(rule(4, &conditions, &[[ENTER, END, 3, 0]]));
+    }
+    (draft, right)
+}
+
+/// Right 0 is in all cells and can be deleted everywhere, by the last of 16
+/// rules; it can be entered again in the last cell only, or nowhere.
+fn closing(names: usize, blanks: u8, leaks: bool) -> (Draft, u8) {
+    let mut draft = Draft::empty(4);
+    for s in 0..names {
+        draft.kinds[s] = 2;
+        for o in 0..names {
+            draft.put(s, o, 0);
+            draft.put(s, o, 1);
+        }
+    }
+    if leaks {
+        draft.put(names - 1, names - 1, 3);
+    }
+    let last = blanks - 1;
+    for number in 0..16 {
+        // Right 2 is nowhere: only the last delete has all that it asks for.
+        let asked = if number == 15 { 1 } else { 2 };
+        let conditions = [[1, 0, last], [0, last, 1], [asked, 1, 0]];
+        draft
+            .rules
+            .push(rule(blanks, &conditions, &[[DELETE, 0, 0, 1]]));
+        let conditions = [[1, 1, last], [0, last, last], [3, 0, 1]];
+        draft
+            .rules
+            .push(rule(blanks, &conditions, &[[ENTER, 0, 0, 1]]));
+    }
+    (draft, 0)
+}
+
+pub fn all(seed: u64) -> Vec<Sample> {
+    let mut random = Random::new(seed);
+    let random = &mut random;
+    let by_rounds = |answer: &Answer| answer.is_unsafe && answer.steps.len() >= 5;
+    let safe = |answer: &Answer| !answer.is_unsafe && answer.steps.len() >= 10;
+    let mut samples = vec![
+        Sample::new("typical", "safe", wanted(random, &TYPICAL, safe)),
+        Sample::new("typical", "unsafe", wanted(random, &TYPICAL, by_rounds)),
+    ];
+    let rounds = |answer: &Answer| !answer.is_unsafe && answer.rounds >= 4;
+    let late = |answer: &Answer| answer.is_unsafe && answer.steps.len() >= 100;
+    for (family, shape) in [("large", &LARGE), ("dense", &DENSE), ("wide", &WIDE)] {
+        samples.push(Sample::new(family, "safe", wanted(random, shape, safe)));
+        samples.push(Sample::new(family, "rounds", wanted(random, shape, rounds)));
+        samples.push(Sample::new(family, "unsafe", wanted(random, shape, late)));
+    }
+    samples.extend([
+        Sample::new("chain", "145", diagonal(29, 5)),
+        Sample::new("chain", "400", grid(20, 1, true)),
+        Sample::new("chain", "900", grid(30, 1, false)),
+        Sample::new("chain", "2700", grid(30, 3, true)),
+        Sample::new("chain", "5400", grid(30, 6, true)),
+        Sample::new("chain", "5400-safe", grid(30, 6, false)),
+        Sample::new("chain", "ballast", ballast(30, 6)),
+        Sample::new("closing", "3-blanks", closing(30, 3, true)),
+        Sample::new("closing", "4-blanks", closing(30, 4, true)),
+        Sample::new("closing", "safe", closing(30, 4, false)),
+    ]);
+    samples
+}

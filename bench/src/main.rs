@@ -1,0 +1,327 @@
+//! Runs the desk program, the plain loops and, where there is one, a solver of
+//! logic programs on the benchmark's tables and prints one table. `README.md`
+//! tells how to read it.
+//!
+//! Arguments: the folder to write into, the desk program, the plain program.
+
+use bench::families::{all, Sample};
+use bench::table::{listing, Answer, Table};
+use bench::{logic, pruned};
+use reference::file;
+use std::fs::{self, File};
+use std::io::Read;
+use std::path::{Path, PathBuf};
+use std::process::{Command, Stdio};
+use std::thread::sleep;
+use std::time::{Duration, Instant};
+use std::{env, process};
+
+const SEED: u64 = 20_260_101;
+
+/// Callgrind takes some sixty times as long: what takes longer than `LONG` is
+/// counted for rounds that take `SHORT` together, and no count takes longer
+/// than `CALLGRIND`.
+const LONG: Duration = Duration::from_millis(100);
+const SHORT: Duration = Duration::from_millis(30);
+const CALLGRIND: Duration = Duration::from_secs(60);
+
+struct Bench {
+    folder: PathBuf,
+    plain: PathBuf,
+    limit: Duration,
+    solver: Option<&'static str>,
+}
+
+/// A program's end: what it printed, and how long it took; or the time limit.
+enum Run {
+    Ended(Vec<u8>, Duration),
+    TooLong,
+}
+
+/// Runs a command with its input from a file and its output into one.
+fn run(command: &mut Command, input: &Path, limit: Duration) -> Run {
+    let output = input.with_extension("printed");
+    let into = File::create(&output).expect("a file for the output");
+    command
+        .stdin(File::open(input).expect("the input"))
+        .stdout(into)
+        .stderr(Stdio::null());
+    let begin = Instant::now();
+    let mut child = command
+        .spawn()
+        .unwrap_or_else(|wrong| fail(&format!("{command:?}: {wrong}")));
+    // Short waits at first, so that short runs are timed well.
+    let mut wait = Duration::from_micros(50);
+    loop {
+        match child.try_wait().expect("the program's state") {
+            Some(_) => break,
+            None if begin.elapsed() > limit => {
+                child.kill().expect("stopped");
+                child.wait().expect("ended");
+                return Run::TooLong;
+            }
+            None => {
+                sleep(wait);
+                wait = (wait * 2).min(begin.elapsed() / 50 + Duration::from_micros(50));
+            }
+        }
+    }
+    let took = begin.elapsed();
+    let mut printed = Vec::new();
+    File::open(&output)
+        .and_then(|mut file| file.read_to_end(&mut printed))
+        .expect("the output");
+    fs::remove_file(&output).expect("removed");
+    Run::Ended(printed, took)
+}
+
+fn fail(wrong: &str) -> ! {
+    eprintln!("bench: {wrong}");
+    process::exit(1);
+}
+
+/// The best of some runs; None past the limit. Prints must be as wanted.
+fn time(program: &Path, input: &Path, limit: Duration, wanted: &str) -> Option<Duration> {
+    let mut best: Option<Duration> = None;
+    let mut spent = Duration::ZERO;
+    for _ in 0..10 {
+        match run(&mut Command::new(program), input, limit) {
+            Run::TooLong => return None,
+            Run::Ended(printed, took) => {
+                if printed != wanted.as_bytes() {
+                    let first = |text: &str| text.lines().next().unwrap_or("").to_string();
+                    fail(&format!(
+                        "{} on {}: printed {}, wanted {}, or another listing",
+                        program.display(),
+                        input.display(),
+                        first(&String::from_utf8_lossy(&printed)),
+                        first(wanted)
+                    ));
+                }
+                best = Some(best.map_or(took, |best| best.min(took)));
+                spent += took;
+                if spent > Duration::from_secs(1) {
+                    break;
+                }
+            }
+        }
+    }
+    best
+}
+
+/// The instructions that callgrind counts; None past its limit.
+fn instructions(program: &Path, rounds: Option<u64>, input: &Path) -> Option<u64> {
+    let counts = input.with_extension("callgrind");
+    let mut command = Command::new("valgrind");
+    command
+        .arg("--tool=callgrind")
+        .arg(format!("--callgrind-out-file={}", counts.display()))
+        .arg(program)
+        .args(rounds.map(|rounds| rounds.to_string()));
+    match run(&mut command, input, CALLGRIND) {
+        Run::TooLong => None,
+        Run::Ended(..) => {
+            let text = fs::read_to_string(&counts).unwrap_or_default();
+            let _ = fs::remove_file(&counts);
+            let total = text.lines().find_map(|line| {
+                line.strip_prefix("summary: ")
+                    .or(line.strip_prefix("totals: "))
+            });
+            let total = total.and_then(|words| words.split_whitespace().next()?.parse().ok());
+            Some(total.unwrap_or_else(|| fail("callgrind gave no count")))
+        }
+    }
+}
+
+impl Bench {
+    /// The solver's time; its verdict must be the judge's.
+    fn solve(&self, sample: &Sample, contents: &file::Contents, is_unsafe: bool) -> String {
+        let Some(solver) = self.solver else {
+            return "-".to_string();
+        };
+        let path = self.folder.join(format!("{}.lp", sample.name));
+        fs::write(&path, logic::program(contents, sample.right)).expect("written");
+        let mut command = Command::new(solver);
+        command.arg(if solver == "gringo" {
+            "--text"
+        } else {
+            "--verbose=0"
+        });
+        command.arg(&path);
+        match run(&mut command, &path, self.limit) {
+            Run::TooLong => over(self.limit),
+            Run::Ended(printed, took) => {
+                let text = String::from_utf8_lossy(&printed).into_owned();
+                let found = text.lines().any(|line| line == "leak" || line == "leak.");
+                if found != is_unsafe {
+                    fail(&format!("{solver} on {}: leak {found}", path.display()));
+                }
+                seconds(took)
+            }
+        }
+    }
+
+    /// The plain loops' instructions, and a mark if they are told by the first
+    /// rounds: a round costs about the same as the next one.
+    fn plain_count(
+        &self,
+        input: &Path,
+        answer: &Answer,
+        took: Option<Duration>,
+    ) -> (Option<u64>, &'static str) {
+        if took.is_some_and(|took| took < LONG) {
+            return (instructions(&self.plain, None, input), "");
+        }
+        // How long a round takes, by the first five.
+        let mut command = Command::new(&self.plain);
+        command.arg("5");
+        let Run::Ended(_, five) = run(&mut command, input, self.limit) else {
+            return (None, "");
+        };
+        let rounds = 5.0 * SHORT.as_secs_f64() / five.as_secs_f64();
+        let rounds = (rounds.ceil() as u64).min(answer.rounds);
+        let count = instructions(&self.plain, Some(rounds), input);
+        (count.map(|count| count * answer.rounds / rounds), "~")
+    }
+}
+
+fn seconds(time: Duration) -> String {
+    format!("{:.4}", time.as_secs_f64())
+}
+
+fn over(limit: Duration) -> String {
+    format!(">{}", limit.as_secs())
+}
+
+/// Counts in millions.
+fn millions(count: u64) -> String {
+    format!("{:.2}", count as f64 / 1e6)
+}
+
+fn times(more: f64, less: f64) -> String {
+    format!("{:.0}", more / less)
+}
+
+const HEAD: [&str; 12] = [
+    "file", "bytes", "answer", "rounds", "steps", "desk s", "plain s", "times", "desk M",
+    "plain M", "times", "solver s",
+];
+
+fn print_row(cells: &[String]) {
+    let widths = [16, 5, 6, 6, 5, 8, 9, 6, 9, 11, 7, 8];
+    let mut line = String::from("|");
+    for (place, (cell, width)) in cells.iter().zip(widths).enumerate() {
+        if place == 0 || place == 2 {
+            line += &format!(" {cell:<width$} |");
+        } else {
+            line += &format!(" {cell:>width$} |");
+        }
+    }
+    println!("{line}");
+}
+
+fn main() {
+    let words: Vec<PathBuf> = env::args_os().skip(1).map(PathBuf::from).collect();
+    let [folder, desk, plain] = words.as_slice() else {
+        fail("three arguments: folder, desk program, plain program");
+    };
+    let limit = env::var("BENCH_LIMIT").map_or(60, |text| {
+        text.parse()
+            .unwrap_or_else(|_| fail("BENCH_LIMIT is a number of seconds"))
+    });
+    let solver = ["clingo", "gringo"].into_iter().find(|solver| {
+        let mut command = Command::new(solver);
+        command.arg("--version").stdout(Stdio::null());
+        command.status().is_ok_and(|status| status.success())
+    });
+    fs::create_dir_all(folder).expect("the folder");
+    let bench = Bench {
+        folder: folder.clone(),
+        plain: plain.clone(),
+        limit: Duration::from_secs(limit),
+        solver,
+    };
+
+    println!(
+        "seed {SEED}, limit {limit} s, solver {}",
+        solver.unwrap_or("none")
+    );
+    // What starting takes: the empty input.
+    let empty = folder.join("empty");
+    fs::write(&empty, []).expect("written");
+    let mut starts = Vec::new();
+    for program in [desk, plain] {
+        let Some(took) = time(program, &empty, bench.limit, "REFUSED 1\n") else {
+            fail("an empty input takes too long");
+        };
+        let Some(count) = instructions(program, None, &empty) else {
+            fail("callgrind takes too long");
+        };
+        starts.push(count);
+        println!(
+            "start of {}: {} s, {count} instructions",
+            program.display(),
+            seconds(took)
+        );
+    }
+
+    print_row(&HEAD.map(String::from));
+    println!("|---|---:|---|---:|---:|---:|---:|---:|---:|---:|---:|---:|");
+    let mut missed = Vec::new();
+    for sample in all(SEED) {
+        let bytes = sample.draft.file();
+        let contents = file::read(&bytes).expect("an accepted file");
+        let table = Table::new(&contents);
+        let answer = pruned::judge(&table, 1 << sample.right);
+        let wanted = listing(&table, &answer);
+        let input = folder.join(&sample.name);
+        fs::write(&input, [vec![sample.right], bytes.clone()].concat()).expect("written");
+
+        let desk_time = time(desk, &input, bench.limit, &wanted);
+        let plain_time = time(plain, &input, bench.limit, &wanted);
+        let desk_count = desk_time.and_then(|_| instructions(desk, None, &input));
+        let (plain_count, about) = bench.plain_count(&input, &answer, plain_time);
+        let desk_count = desk_count.map(|count| count.saturating_sub(starts[0]).max(1));
+        let plain_count = plain_count.map(|count| count.saturating_sub(starts[1]).max(1));
+
+        let bound = if plain_time.is_none() { ">" } else { "" };
+        let faster = desk_time.map(|desk| {
+            let plain = plain_time.unwrap_or(bench.limit);
+            plain.as_secs_f64() / desk.as_secs_f64()
+        });
+        let fewer = desk_count
+            .zip(plain_count)
+            .map(|(desk, plain)| times(plain as f64, desk as f64));
+        let shown = |time: Option<Duration>| time.map_or_else(|| over(bench.limit), seconds);
+        let none = || "-".to_string();
+        print_row(&[
+            sample.name.clone(),
+            bytes.len().to_string(),
+            if answer.is_unsafe { "UNSAFE" } else { "SAFE" }.to_string(),
+            answer.rounds.to_string(),
+            answer.steps.len().to_string(),
+            shown(desk_time),
+            shown(plain_time),
+            faster.map_or_else(none, |faster| format!("{bound}{faster:.0}")),
+            desk_count.map_or_else(none, millions),
+            plain_count.map_or_else(none, |count| format!("{about}{}", millions(count))),
+            fewer.map_or_else(none, |fewer| format!("{about}{fewer}")),
+            bench.solve(&sample, &contents, answer.is_unsafe),
+        ]);
+
+        // What is to be reached; a plain run past the limit is fast enough.
+        let held_to = matches!(sample.family, "large" | "wide" | "closing");
+        if held_to && faster.is_none_or(|faster| faster < 20.0) {
+            missed.push(format!("{}: less than 20 times faster", sample.name));
+        }
+        if desk_time.is_none_or(|desk| desk > Duration::from_secs(10)) {
+            missed.push(format!("{}: more than 10 s", sample.name));
+        }
+    }
+    if missed.is_empty() {
+        println!("reached: 20 times faster on large, wide and closing; no file over 10 s");
+    }
+    for line in missed {
+        println!("missed: {line}");
+    }
+}

@@ -1,0 +1,120 @@
+//! A table in arrays, as the benchmark's judges want it.
+
+use reference::file::{Contents, Step};
+
+#[derive(Clone)]
+pub struct State {
+    pub kinds: [u8; 32],
+    pub cells: [u8; 1024],
+}
+
+#[derive(Clone, Copy, PartialEq, Eq)]
+pub enum Kind {
+    Enter,
+    Delete,
+    CreateSubject,
+    CreateObject,
+    Destroy,
+}
+
+pub struct Rule {
+    pub blanks: usize,
+    /// Bit, subject blank, object blank.
+    pub conditions: Vec<(u8, usize, usize)>,
+    pub kind: Kind,
+    /// The bit that is entered or deleted, 0 in other kinds.
+    pub bit: u8,
+    pub first: usize,
+    pub second: usize,
+    pub unnamed: Vec<usize>,
+}
+
+pub struct Table {
+    pub start: State,
+    pub rules: Vec<Rule>,
+}
+
+/// A step of the listing: the rule and its actuals, 255 from k on.
+pub type Written = (u8, [u8; 4]);
+
+/// What a judge found.
+pub struct Answer {
+    pub is_unsafe: bool,
+    pub rounds: u64,
+    pub steps: Vec<Written>,
+}
+
+impl State {
+    pub fn lowest_absent(&self) -> Option<usize> {
+        self.kinds.iter().position(|kind| *kind == 0)
+    }
+
+    pub fn has(&self, subject: usize, object: usize, bit: u8) -> bool {
+        self.cells[(32 * subject + object) & 1023] & bit != 0
+    }
+}
+
+impl Table {
+    pub fn new(contents: &Contents) -> Table {
+        let matrix = &contents.matrix;
+        let mut start = State {
+            kinds: [0; 32],
+            cells: [0; 1024],
+        };
+        start.kinds.copy_from_slice(&matrix.kinds);
+        start.cells.copy_from_slice(&matrix.cells);
+        let rules = contents.rules.iter().map(|rule| {
+            assert!(rule.steps.len() == 1);
+            let (kind, bit, first, second) = match rule.steps[0] {
+                Step::Enter {
+                    right,
+                    subject,
+                    object,
+                } => (Kind::Enter, 1 << right, subject, object),
+                Step::Delete {
+                    right,
+                    subject,
+                    object,
+                } => (Kind::Delete, 1 << right, subject, object),
+                Step::CreateSubject(blank) => (Kind::CreateSubject, 0, blank, blank),
+                Step::CreateObject(blank) => (Kind::CreateObject, 0, blank, blank),
+                Step::DestroySubject(blank) | Step::DestroyObject(blank) => {
+                    (Kind::Destroy, 0, blank, blank)
+                }
+            };
+            Rule {
+                blanks: rule.blanks,
+                conditions: rule
+                    .conditions
+                    .iter()
+                    .map(|test| (1 << test.right, test.subject, test.object))
+                    .collect(),
+                kind,
+                bit,
+                first,
+                second,
+                unnamed: rule.unnamed.clone(),
+            }
+        });
+        Table {
+            start,
+            rules: rules.collect(),
+        }
+    }
+}
+
+/// What the desk program prints for an answer.
+pub fn listing(table: &Table, answer: &Answer) -> String {
+    if !answer.is_unsafe {
+        return format!("SAFE {}\n", answer.steps.len());
+    }
+    let mut text = format!("UNSAFE {}\n", answer.steps.len());
+    for (rule, actuals) in &answer.steps {
+        text += &rule.to_string();
+        for actual in &actuals[..table.rules[*rule as usize].blanks] {
+            text += &format!(" {actual}");
+        }
+        text.push('\n');
+    }
+    text
+}

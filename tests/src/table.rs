@@ -1,0 +1,234 @@
+//! A readable form of the desk program's inputs, a line a fact:
+//!
+//! ```text
+//! ask 1                        the right, the input's first byte
+//! rights 2
+//! subjects 0 1 4-6
+//! objects 2
+//! cell (0,2): 0                rights in a cell; names may be stretches: (0-3,2)
+//! rule (a,b,c): if 0 in (a,c) and 1 in (a,b) enter 1 into (b,c)
+//! ```
+//!
+//! The steps of a rule stand with `;` between them: `delete 0 from (a,b)`,
+//! `create subject a`, `destroy object a` and so on. `#` begins a comment.
+//! For inputs that must be refused nothing is checked, and these lines hold
+//! bytes as they come:
+//!
+//! ```text
+//! kind 3: 7                    the kind of a name
+//! rule bytes: 1 0 1 9          a rule's section
+//! size kinds: 31               a section cut or filled with 0, also `cells`
+//! byte 2: 11                   a byte of the file, by its offset
+//! size file: 4097              the file cut or filled with 0
+//! ```
+//!
+//! Without the line `ask` the input is empty.
+
+use crate::generate::{
+    rule, Draft, CREATE_OBJECT, CREATE_SUBJECT, DELETE, DESTROY_OBJECT, DESTROY_SUBJECT, ENTER,
+};
+use std::str::FromStr;
+
+/// The input that a text describes, or the number of the wrong line and what
+/// is wrong with it.
+pub fn input(text: &str) -> Result<Vec<u8>, String> {
+    let mut table = Table {
+        asked: None,
+        draft: Draft::empty(1),
+        bytes: Vec::new(),
+        size: None,
+    };
+    for (number, line) in text.lines().enumerate() {
+        let line = line.split('#').next().unwrap_or("").trim();
+        if !line.is_empty() {
+            table
+                .read(line)
+                .map_err(|wrong| format!("line {}: {wrong}", number + 1))?;
+        }
+    }
+    Ok(table.input())
+}
+
+struct Table {
+    asked: Option<u8>,
+    draft: Draft,
+    bytes: Vec<(usize, u8)>,
+    size: Option<usize>,
+}
+
+impl Table {
+    fn read(&mut self, line: &str) -> Result<(), String> {
+        let (word, rest) = line.split_once(' ').unwrap_or((line, ""));
+        match word {
+            "ask" => self.asked = Some(number(rest)?),
+            "rights" => self.draft.rights = number(rest)?,
+            "subjects" => self.kinds(rest, 2)?,
+            "objects" => self.kinds(rest, 1)?,
+            "kind" => {
+                let (name, kind) = halves(rest, ":")?;
+                self.draft.kinds[name_of(name)?] = number(kind)?;
+            }
+            "cell" => {
+                let (cell, rights) = halves(rest, ":")?;
+                let (subjects, objects) = pair(cell)?;
+                for subject in stretch(subjects)? {
+                    for object in stretch(objects)? {
+                        for right in rights.split_whitespace() {
+                            let right: u8 = number(right)?;
+                            if right > 7 {
+                                return Err(format!("no bit for right {right}"));
+                            }
+                            self.draft.put(subject, object, right);
+                        }
+                    }
+                }
+            }
+            "rule" => {
+                let (blanks, body) = halves(rest, ":")?;
+                let section = if blanks == "bytes" {
+                    numbers(body)?
+                } else {
+                    section(blanks, body)?
+                };
+                self.draft.rules.push(section);
+            }
+            "size" => {
+                let (what, size) = halves(rest, ":")?;
+                let size: usize = number(size)?;
+                match what {
+                    "kinds" => self.draft.kinds.resize(size, 0),
+                    "cells" => self.draft.cells.resize(size, 0),
+                    "file" => self.size = Some(size),
+                    _ => return Err(format!("size of what: {what}")),
+                }
+            }
+            "byte" => {
+                let (offset, byte) = halves(rest, ":")?;
+                self.bytes.push((number(offset)?, number(byte)?));
+            }
+            _ => return Err(format!("unknown: {word}")),
+        }
+        Ok(())
+    }
+
+    fn kinds(&mut self, names: &str, kind: u8) -> Result<(), String> {
+        for part in names.split_whitespace() {
+            for name in stretch(part)? {
+                self.draft.kinds[name] = kind;
+            }
+        }
+        Ok(())
+    }
+
+    fn input(&self) -> Vec<u8> {
+        let Some(asked) = self.asked else {
+            return Vec::new();
+        };
+        let mut file = self.draft.file();
+        for &(offset, byte) in &self.bytes {
+            file[offset] = byte;
+        }
+        if let Some(size) = self.size {
+            file.resize(size, 0);
+        }
+        let mut input = vec![asked];
+        input.extend(file);
+        input
+    }
+}
+
+/// A rule's section from its blanks, `(a,b)`, and its conditions and steps.
+fn section(blanks: &str, body: &str) -> Result<Vec<u8>, String> {
+    let blanks: Vec<&str> = inside(blanks)?.split(',').map(str::trim).collect();
+    let blank = |name: &str| -> Result<u8, String> {
+        let place = blanks.iter().position(|blank| *blank == name.trim());
+        let place = place.ok_or_else(|| format!("no such blank: {name}"))?;
+        Ok(place as u8)
+    };
+    let cell = |text: &str| -> Result<(u8, u8), String> {
+        let (subject, object) = pair(text)?;
+        Ok((blank(subject)?, blank(object)?))
+    };
+
+    let mut steps_text = body;
+    let mut conditions = Vec::new();
+    if let Some(rest) = body.strip_prefix("if ") {
+        // The conditions end with the bracket before the first step.
+        let verbs = ["enter", "delete", "create", "destroy"];
+        let end = verbs.iter().filter_map(|verb| rest.find(verb)).min();
+        let (tests, steps) = rest.split_at(end.ok_or("no step")?);
+        steps_text = steps;
+        for test in tests.split(" and ") {
+            let (right, place) = halves(test, " in ")?;
+            let (subject, object) = cell(place)?;
+            conditions.push([number(right)?, subject, object]);
+        }
+    }
+    let mut steps = Vec::new();
+    for step in steps_text.split(';') {
+        let (verb, rest) = halves(step, " ")?;
+        let (kind, between) = match verb {
+            "enter" => (ENTER, " into "),
+            "delete" => (DELETE, " from "),
+            "create" | "destroy" => {
+                let (kind, name) = halves(rest, " ")?;
+                let kind = match (verb, kind) {
+                    ("create", "subject") => CREATE_SUBJECT,
+                    ("create", "object") => CREATE_OBJECT,
+                    ("destroy", "subject") => DESTROY_SUBJECT,
+                    ("destroy", "object") => DESTROY_OBJECT,
+                    _ => return Err(format!("no step: {step}")),
+                };
+                steps.push([kind, 0, blank(name)?, 0]);
+                continue;
+            }
+            _ => return Err(format!("no step: {step}")),
+        };
+        let (right, place) = halves(rest, between)?;
+        let (subject, object) = cell(place)?;
+        steps.push([kind, number(right)?, subject, object]);
+    }
+    Ok(rule(blanks.len() as u8, &conditions, &steps))
+}
+
+fn number<T: FromStr>(text: &str) -> Result<T, String> {
+    let text = text.trim();
+    text.parse()
+        .map_err(|_| format!("not a number here: {text}"))
+}
+
+fn numbers(text: &str) -> Result<Vec<u8>, String> {
+    text.split_whitespace().map(number).collect()
+}
+
+fn name_of(text: &str) -> Result<usize, String> {
+    match number(text)? {
+        name if name < 32 => Ok(name),
+        name => Err(format!("no name: {name}")),
+    }
+}
+
+/// One name, or the names from one to another: `4` or `4-6`.
+fn stretch(text: &str) -> Result<std::ops::RangeInclusive<usize>, String> {
+    let (first, last) = text.split_once('-').unwrap_or((text, text));
+    Ok(name_of(first)?..=name_of(last)?)
+}
+
+fn halves<'a>(text: &'a str, between: &str) -> Result<(&'a str, &'a str), String> {
+    match text.trim().split_once(between) {
+        Some((one, other)) => Ok((one.trim(), other.trim())),
+        None => Err(format!("no '{between}' in: {text}")),
+    }
+}
+
+fn inside(text: &str) -> Result<&str, String> {
+    let text = text.trim();
+    let inner = text
+        .strip_prefix('(')
+        .and_then(|rest| rest.strip_suffix(')'));
+    inner.ok_or_else(|| format!("no brackets: {text}"))
+}
+
+fn pair(text: &str) -> Result<(&str, &str), String> {
+    halves(inside(text)?, ",")
+}
