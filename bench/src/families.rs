@@ -254,7 +254,7 @@ pub fn all(seed: u64) -> Vec<Sample> {
         Sample::new("typical", "unsafe", wanted(random, &TYPICAL, by_rounds)),
     ];
     let rounds = |answer: &Answer| !answer.is_unsafe && answer.rounds >= 4;
-    let late = |answer: &Answer| answer.is_unsafe && answer.steps.len() >= 100;
+    let late = |answer: &Answer| answer.is_unsafe && answer.steps.len() >= 500;
     for (family, shape) in [("large", &LARGE), ("dense", &DENSE), ("wide", &WIDE)] {
         samples.push(Sample::new(family, "safe", wanted(random, shape, safe)));
         samples.push(Sample::new(family, "rounds", wanted(random, shape, rounds)));

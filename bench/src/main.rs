@@ -12,9 +12,9 @@ use std::fs::{self, File};
 use std::io::Read;
 use std::path::{Path, PathBuf};
 use std::process::{Command, Stdio};
-use std::thread::sleep;
+use std::sync::mpsc;
 use std::time::{Duration, Instant};
-use std::{env, process};
+use std::{env, process, thread};
 
 const SEED: u64 = 20_260_101;
 
@@ -50,23 +50,22 @@ fn run(command: &mut Command, input: &Path, limit: Duration) -> Run {
     let mut child = command
         .spawn()
         .unwrap_or_else(|wrong| fail(&format!("{command:?}: {wrong}")));
-    // Short waits at first, so that short runs are timed well.
-    let mut wait = Duration::from_micros(50);
-    loop {
-        match child.try_wait().expect("the program's state") {
-            Some(_) => break,
-            None if begin.elapsed() > limit => {
-                child.kill().expect("stopped");
-                child.wait().expect("ended");
-                return Run::TooLong;
-            }
-            None => {
-                sleep(wait);
-                wait = (wait * 2).min(begin.elapsed() / 50 + Duration::from_micros(50));
-            }
+    // Looking again and again would add its own waits to short runs.
+    let (ended, end) = mpsc::channel();
+    let number = child.id().to_string();
+    let watch = thread::spawn(move || {
+        let too_long = end.recv_timeout(limit).is_err();
+        if too_long {
+            let _ = Command::new("kill").args(["-9", &number]).status();
         }
-    }
+        too_long
+    });
+    child.wait().expect("the program's end");
     let took = begin.elapsed();
+    let _ = ended.send(());
+    if watch.join().expect("the watch") {
+        return Run::TooLong;
+    }
     let mut printed = Vec::new();
     File::open(&output)
         .and_then(|mut file| file.read_to_end(&mut printed))
@@ -305,14 +304,20 @@ fn main() {
             faster.map_or_else(none, |faster| format!("{bound}{faster:.0}")),
             desk_count.map_or_else(none, millions),
             plain_count.map_or_else(none, |count| format!("{about}{}", millions(count))),
-            fewer.map_or_else(none, |fewer| format!("{about}{fewer}")),
+            fewer
+                .as_ref()
+                .map_or_else(none, |fewer| format!("{about}{fewer}")),
             bench.solve(&sample, &contents, answer.is_unsafe),
         ]);
 
         // What is to be reached; a plain run past the limit is fast enough.
         let held_to = matches!(sample.family, "large" | "wide" | "closing");
         if held_to && faster.is_none_or(|faster| faster < 20.0) {
-            missed.push(format!("{}: less than 20 times faster", sample.name));
+            missed.push(format!(
+                "{}: less than 20 times faster ({} times fewer instructions)",
+                sample.name,
+                fewer.as_deref().unwrap_or("unknown")
+            ));
         }
         if desk_time.is_none_or(|desk| desk > Duration::from_secs(10)) {
             missed.push(format!("{}: more than 10 s", sample.name));
