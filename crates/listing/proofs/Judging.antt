@@ -24,45 +24,14 @@ use Rattle.trace.specs.Traces.{callAt, calls}
 use Rattle.safety.specs.Judgement.{oneStep, boundOf, callerRefusal, judgeRefusal, fileVerdict, judgementOf, fileJudgement, stepsWritten, bytesOf, filled, fileBuffer, Judged}
 use Rattle.safety.specs.declared.Judgement.{Judgement}
 use Rattle.safety.specs.declared.Judgement.the-variants.{Refused, Safe, Unsafe}
+use Rattle.safety.proofs.Demand3.{passed}
+use Rattle.safety.proofs.Buffers.{calls-back}
 use Rattle.listing.specs.Listing.{head, refusedWord, bufferBytes, printed, listing}
 use Rattle.listing.specs.Writing.{Put, Room, listingBytes, Answered}
 
--- ---- the steps in the buffer, read back
--- pre: the bytes of the j steps before these
-module _ (rest : List ℕ) where
-  steps-back : (xs : List Call) (pre : List ℕ) (j : ℕ) → length pre ≡ 5 * j → listed (callAt (pre ++ (bytesOf xs ++ rest))) (length xs) j ≡ xs
-  steps-back [] pre j e = refl
-  steps-back (x ∷ xs) pre j e = ap₂ _∷_ here (ap (λ (l : List ℕ). listed (callAt l) (length xs) (suc j)) (sym (append-assoc pre five (bytesOf xs ++ rest))) ∙ steps-back xs (pre ++ five) (suc j) longer)
-    where
-      five : List ℕ
-      five = x .command ∷ x .a0 ∷ x .a1 ∷ x .a2 ∷ x .a3 ∷ []
-
-      longer : length (pre ++ five) ≡ 5 * suc j
-      longer = let z = length-append pre five in omega arith
-
-      at : (i : ℕ) → getD (pre ++ (five ++ (bytesOf xs ++ rest))) (5 * j + i) 0 ≡ getD (five ++ (bytesOf xs ++ rest)) i 0
-      at i = ap (λ (n : ℕ). getD (pre ++ (five ++ (bytesOf xs ++ rest))) (n + i) 0) (sym e) ∙ getD-append-add pre (five ++ (bytesOf xs ++ rest)) i 0
-
-      first : getD (pre ++ (five ++ (bytesOf xs ++ rest))) (5 * j) 0 ≡ x .command
-      first = let z : 5 * j ≡ 5 * j + 0 = omega arith in ap (λ (n : ℕ). getD (pre ++ (five ++ (bytesOf xs ++ rest))) n 0) z ∙ at 0
-
-      here : callAt (pre ++ (five ++ (bytesOf xs ++ rest))) j ≡ x
-      here = rw (first, at 1, at 2, at 3, at 4)
-
-  pub calls-back : (xs : List Call) → calls (bytesOf xs ++ rest) (length xs) ≡ xs
-  calls-back xs = steps-back xs [] 0 refl
-
 -- ---- 24 was not given: the bound's steps fit into the buffer
-last-test : (a b c d : Bool) → _≡_ {A = ℕ} (pick a 21 (pick b (pick c 23 (pick d 24 0)) 22)) 0 → d ≡ false
-last-test true b c d e = absurd (omega arith)
-last-test false false c d e = absurd (omega arith)
-last-test false true true d e = absurd (omega arith)
-last-test false true false true e = absurd (omega arith)
-last-test false true false false e = refl
-
 bound-fits : (p : Policy) (r n : ℕ) → callerRefusal p r n ≡ 0 → 5 * boundOf p ≤ n
-unfolding callerRefusal
-bound-fits p r n e = ltb-false n (5 * boundOf p) (last-test (leb (p .rights) r) (each (oneStep p) (p .commands) 0) (ltb startNames (namesOf (stateOf (p .matrix)))) (ltb n (5 * boundOf p)) e)
+bound-fits p r n e = ltb-false n (5 * boundOf p) (passed p r n e .3)
 
 both-zero : (n m : ℕ) → orElse n m ≡ 0 → (n ≡ 0) × (m ≡ 0)
 both-zero n m e = go (ℕ-discrete n 0)
@@ -122,7 +91,7 @@ module _ (f : List ℕ) (r : ℕ) (b : List ℕ) (j : Judgement) (b' : List ℕ)
         let v = bytes-length (fileVerdict f r .steps) in omega arith
 
     steps-are : calls b' (stepsWritten j) ≡ fileVerdict f r .steps
-    steps-are = ap₂ calls written count ∙ calls-back (drop (5 * length (fileVerdict f r .steps)) b) (fileVerdict f r .steps)
+    steps-are = ap₂ calls written count ∙ calls-back (fileVerdict f r .steps) (drop (5 * length (fileVerdict f r .steps)) b)
 
   none-written : (judgeRefusal f r bufferBytes ≡ 0 → ⊥) → stepsWritten j ≡ 0
   none-written n = ap stepsWritten (given ∙ refuses n)

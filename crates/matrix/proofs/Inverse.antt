@@ -20,7 +20,8 @@ use Rattle.protection.specs.Limits.{names, rights}
 use Rattle.protection.specs.State.{Kind, absent, object, subject, isObject, isSubject, State, objectIn, subjectIn}
 use Rattle.protection.specs.Paper.{subject-is-object}
 use Rattle.matrix.specs.Bytes.{kindOf, kindByte, inside, rightsIn, view, kindsOf, cellByte, cellsOf}
-use Rattle.matrix.specs.Canonical.{Canonical, Proper}
+use Rattle.protection.specs.Proper.{Proper}
+use Rattle.matrix.specs.Canonical.{Canonical}
 
 -- ---- kinds
 byte-kind : (k : ℕ) → k ≤ 2 → kindByte (kindOf k) ≡ k

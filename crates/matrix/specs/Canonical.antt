@@ -1,4 +1,4 @@
--- Kinds and cells as an accepted file has them, and states that fit into a file: what the functions over a matrix ask of it and keep.
+-- Kinds and cells as an accepted file has them: what the functions over a matrix ask of it and keep.
 use Prim.Native.Nat.{ℕ, _+_, _*_, _^_, _≤_, _<_}
 use mathlib.Core.Path.{_≡_}
 use mathlib.Core.Bool.{not}
@@ -6,7 +6,6 @@ use mathlib.Core.List.{List}
 use lib.Dec.{T}
 use lib.ListN.{length, getD}
 use Rattle.protection.specs.Limits.{names}
-use Rattle.protection.specs.State.{State, objectIn, subjectIn}
 use Rattle.matrix.specs.Bytes.{inside}
 
 -- kinds and cells as a file with g rights may hold them
@@ -16,10 +15,3 @@ pub record Canonical (g : ℕ) (ks cs : List ℕ) : Type 0 where
   pub kinds-fit : (x : ℕ) → getD ks x 0 ≤ 2
   pub cells-fit : (c : ℕ) → getD cs c 0 < 2 ^ g
   pub outside : (s o : ℕ) → s < names → o < names → T (not (inside ks s o)) → getD cs (names * s + o) 0 ≡ 0
-
--- a state that fits into a file with g rights
-pub record Proper (g : ℕ) (m : State) : Type 0 where
-  pub named : (x : ℕ) → T (objectIn m x) → x < names
-  pub row : (s o q : ℕ) → T (m .cell s o q) → T (subjectIn m s)
-  pub column : (s o q : ℕ) → T (m .cell s o q) → T (objectIn m o)
-  pub right : (s o q : ℕ) → T (m .cell s o q) → q < g

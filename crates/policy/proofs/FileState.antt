@@ -17,7 +17,8 @@ use Rattle.rights.specs.Rights.{within}
 use Rattle.protection.specs.Limits.{names, rights, commands}
 use Rattle.protection.specs.State.{State}
 use Rattle.matrix.specs.Bytes.{inside, view, kindsOf, cellsOf}
-use Rattle.matrix.specs.Canonical.{Canonical, Proper}
+use Rattle.protection.specs.Proper.{Proper}
+use Rattle.matrix.specs.Canonical.{Canonical}
 use Rattle.matrix.proofs.Inverse.{view-proper, kinds-back, cells-back}
 use Rattle.layout.specs.File.{byte, rightsOf, pairsOf, offsetOf, lengthOf, startOf, section, kindsIn, cellsIn, commandIn, commandsOf}
 use Rattle.matrix.specs.Refusals.{kindFits, cellFits}

@@ -17,7 +17,8 @@ use Rattle.protection.specs.Limits.{names, rights, commands, fileBytes}
 use Rattle.protection.specs.State.{State}
 use Rattle.protection.specs.Command.{System}
 use Rattle.matrix.specs.Bytes.{inside, view, kindsOf, cellsOf}
-use Rattle.matrix.specs.Canonical.{Canonical, Proper}
+use Rattle.protection.specs.Proper.{Proper}
+use Rattle.matrix.specs.Canonical.{Canonical}
 use Rattle.matrix.proofs.Inverse.{view-back, written-canonical}
 use Rattle.layout.specs.File.{byte, word, rightsOf, pairsOf, offsetOf, lengthOf, pairsEnd, startOf, section, kindsIn, cellsIn, commandIn, commandsOf}
 use Rattle.layout.specs.Refusals.{orElse, headerRefusal, placed, pairsRefusal, sizesRefusal}

@@ -16,6 +16,7 @@ use Rattle.protection.specs.Command.{Command, System, Call, actuals}
 use Rattle.protection.specs.Execution.{unbounded}
 use Rattle.protection.specs.Leak.{leaks, LeaksLast}
 use Rattle.protection.specs.Judge.{lowestAbsent, operationIn, callAt, Progress, opened, visit, round, rounds, isEmpty, closing, Verdict, subjectsOf, namesOf, stepBound, judge}
+use Rattle.protection.specs.Proper.{Proper}
 use Rattle.protection.specs.Paper.{subject-is-object}
 use Rattle.protection.proofs.Calls.{Singles, carried-unbounded, carried-small, call-done}
 use Rattle.protection.proofs.Closed.{Closed, closed-safe}
@@ -23,7 +24,7 @@ use Rattle.protection.proofs.Rounds.{visit-cases, round-quiet, keep-rou
 use Rattle.protection.proofs.Invariant.{Goes, goes-last, Course, course-opened, course-step}
 use Rattle.protection.proofs.Fixpoint.{closed-enters, closed-creates-subject, closed-creates-object}
 use Rattle.protection.proofs.ClosingSearch.{closing-none, closing-few, closing-sound}
-use Rattle.protection.proofs.Bound.{Proper, Tally, tally-opened, tally-step, tally-bound, tally-room}
+use Rattle.protection.proofs.Bound.{Tally, tally-opened, tally-step, tally-bound, tally-room}
 
 -- what the judge takes: commands of one operation, and a state that fits into a file, with at most 30 names
 pub record Taken (S : System) (m : State) : Type 0 where

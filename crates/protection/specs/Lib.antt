@@ -1,5 +1,6 @@
 pub mod Limits
 pub mod State
+pub mod Proper
 pub mod Command
 pub mod Execution
 pub mod Leak

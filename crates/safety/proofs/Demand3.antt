@@ -39,7 +39,7 @@ use Rattle.safety.proofs.Buffers.{calls-back, rest-behind}
 
 -- ---- a question that is not refused
 -- what the chain of refusals says where it comes to 0
-module _ (p : Policy) (F : PolicyFits p) (r n : ℕ) (e : callerRefusal p r n ≡ 0) where
+module _ (p : Policy) (r n : ℕ) (e : callerRefusal p r n ≡ 0) where
   nonzero : (k : ℕ) → suc k ≡ 0 → ⊥
   nonzero k q = omega arith
 
@@ -50,7 +50,7 @@ module _ (p : Policy) (F : PolicyFits p) (r n : ℕ) (e : callerRefusal p r n �
   parts false true false true q = absurd (nonzero 23 q)
   parts false true false false q = (refl, refl, refl, refl)
 
-  passed : (leb (p .rights) r ≡ false) × (each (oneStep p) (p .commands) 0 ≡ true) × (ltb startNames (namesOf (stateOf (p .matrix))) ≡ false) × (ltb n (5 * boundOf p) ≡ false)
+  pub passed : (leb (p .rights) r ≡ false) × (each (oneStep p) (p .commands) 0 ≡ true) × (ltb startNames (namesOf (stateOf (p .matrix))) ≡ false) × (ltb n (5 * boundOf p) ≡ false)
   unfolding callerRefusal
   passed = parts (leb (p .rights) r) (each (oneStep p) (p .commands) 0) (ltb startNames (namesOf (stateOf (p .matrix)))) (ltb n (5 * boundOf p)) e
 
@@ -68,8 +68,8 @@ module _ (p : Policy) (F : PolicyFits p) (r n : ℕ) (e : callerRefusal p r n �
       go (yes l) = l
       go (no f) = absurd (let z : _≡_ {A = Bool} true false = sym (le-leb a b (omega arith)) ∙ q in let w : _≡_ {A = ℕ} 0 1 = cc in omega arith)
 
-  pub question-asked : Asked p r n
-  question-asked = record {
+  pub question-asked : PolicyFits p → Asked p r n
+  question-asked F = record {
     fits = F;
     below = not-within (p .rights) r (passed .0);
     single = record {
@@ -147,7 +147,7 @@ module _ (f : List ℕ) (r : ℕ) (b : List ℕ) where
 
       module _ (k : ℕ) (e : k ≡ callerRefusal (x .policy) r (length b)) (n : k ≡ 0) where
         pub file-asked : Asked (x .policy) r (length b)
-        file-asked = question-asked (x .policy) (policy-fits-read f x d z) r (length b) (sym e ∙ n)
+        file-asked = question-asked (x .policy) r (length b) (sym e ∙ n) (policy-fits-read f x d z)
 
         none-refused : judgeRefusal f r (length b) ≡ 0
         none-refused = refusal-is k e ∙ n

@@ -21,7 +21,7 @@ use Rattle.protection.specs.Execution.{bounded, holdAll, spareExists, actualFit
 use Rattle.protection.specs.Leak.{after}
 use Rattle.protection.specs.Paper.{Configuration, configuration, Same, Executes}
 use Rattle.protection.proofs.Model.{Admitted, Agrees, machine-is-model, gates-elim}
-use Rattle.matrix.specs.Canonical.{Proper}
+use Rattle.protection.specs.Proper.{Proper}
 use Rattle.commands.specs.Contents.{missing, operationBy, operationAt, operationOf, modelOf, meaning}
 use Rattle.commands.specs.Fits.{Fits}
 use Rattle.commands.specs.declared.Command.{Command}

@@ -12,7 +12,7 @@ use Rattle.protection.specs.Limits.{names}
 use Rattle.protection.specs.State.{Kind, absent, object, subject, isObject, isSubject, State, objectIn, subjectIn}
 use Rattle.protection.specs.Command.{Operation, enter, delete, createSubject, createObject, destroySubject, destroyObject, Actuals}
 use Rattle.protection.specs.Execution.{canDo, sameCell, put, takeOut, renew, effect, canDoAll, effectAll}
-use Rattle.matrix.specs.Canonical.{Proper}
+use Rattle.protection.specs.Proper.{Proper}
 
 -- the right that the operation enters is below g, the name that it creates is one of a file
 abbrev pub Sound : ℕ → Actuals → Operation → Type 0
