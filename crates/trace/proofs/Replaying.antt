@@ -80,9 +80,10 @@ module _ (p : Policy) (t : List ℕ) (right n i : ℕ) (m : Matrix) (s : Step) (
       ∙ halts right i o later (subst (λ (w : Answer). (tagOf (declared enum) w ≡ 0) ⊎ (tagOf (declared enum) w ≡ 2)) answered d)
       ∙ sym unrolled ∙ inv
 
-  pub replay-more : e .answer ≡ Done → replayFrom (systemOf p) right (listed (callAt t) (n - (i + 1)) (i + 1)) (i + 1) (stateOf (e .matrix)) ≡ all
-  replay-more d =
-      ap (replayFrom (systemOf p) right (listed (callAt t) (n - (i + 1)) (i + 1)) (i + 1)) (h .state ∙ ap (λ (w : Outcome). after w (stateOf m)) outcome-is)
+  pub replay-more : (j : ℕ) → j ≡ i + 1 → e .answer ≡ Done → replayFrom (systemOf p) right (listed (callAt t) (n - j) j) j (stateOf (e .matrix)) ≡ all
+  replay-more j dj d =
+      ap (λ (k : ℕ). replayFrom (systemOf p) right (listed (callAt t) (n - k) k) k (stateOf (e .matrix))) dj
+      ∙ ap (replayFrom (systemOf p) right (listed (callAt t) (n - (i + 1)) (i + 1)) (i + 1)) (h .state ∙ ap (λ (w : Outcome). after w (stateOf m)) outcome-is)
       ∙ sym (goes right i o later (sym answered ∙ d)) ∙ sym unrolled ∙ inv
 
 pub replay-end : (p : Policy) (t : List ℕ) (right n i : ℕ) (m : Matrix) (all : Replay) → n ≤ i → replayFrom (systemOf p) right (listed (callAt t) (n - i) i) i (stateOf m) ≡ all → NoLeak ≡ all

@@ -1,6 +1,6 @@
 // Traces and their replay; refusals 21 and 31.
 ghost use mathlib.Core.Path.{_≡_};
-ghost use Prim.Native.Nat.{_+_, _*_, _≤_, _<_};
+ghost use Prim.Native.Nat.{_+_, _*_, _^_, _≤_, _<_};
 ghost use lib.ListN.{length};
 ghost use Rattle.policy.specs.Contents.{systemOf};
 ghost use Rattle.policy.specs.Fits.{PolicyFits};
@@ -37,6 +37,57 @@ pub fn step_at(trace: &[u8], i: usize) -> Step
     }
 }
 
+// A reader of a trace: the lent trace, and how many of its steps lie behind the reader.
+pub struct TraceReader<'a> {
+    pub trace: &'a [u8],
+    pub at: usize,
+}
+
+impl<'a> TraceReader<'a> {
+    // A reader that has come to step `at`.
+    pub fn new(trace: &'a [u8], at: usize) -> TraceReader<'a>
+        ensures { λ r. ⌜ (r .trace ≡ trace .entry) × (r .at ≡ at) ⌝ }
+    {
+        TraceReader { trace, at }
+    }
+
+    // The step that lies before it.
+    pub fn step(self) -> Step
+        requires { ⌜ 5 * self .at + 5 ≤ length (now (self .trace)) ⌝ }
+        ensures { λ r. ⌜ r ≡ stepAt (now (self .entry .trace)) (self .entry .at) ⌝ }
+    {
+        step_at(self.trace, self.at)
+    }
+
+    // Moved on past that step.
+    pub fn past(self) -> TraceReader<'a>
+        requires { ⌜ self .at + 1 < 2 ^ 64 ⌝ }
+        ensures { λ r. ⌜ (r .trace ≡ self .entry .trace) × (r .at ≡ self .entry .at + 1) ⌝ }
+    {
+        TraceReader {
+            trace: self.trace,
+            at: self.at + 1,
+        }
+    }
+}
+
+// A step, and how far the reader has come with it.
+pub struct Taken {
+    pub step: Step,
+    pub at: usize,
+}
+
+// Takes step i of a trace: the reader between two turns of a loop over plain slices.
+fn take_step(trace: &[u8], i: usize) -> Taken
+    requires { ⌜ 5 * i + 5 ≤ length (now trace) ⌝ }
+    ensures { λ r. ⌜ (r .step ≡ stepAt (now (trace .entry)) i) × (r .at ≡ i + 1) ⌝ }
+{
+    let reader = TraceReader::new(trace, i);
+    let step = reader.step();
+    let next = reader.past();
+    Taken { step, at: next.at }
+}
+
 // How a replay ends at step i.
 fn end_of(answer: Answer, i: usize) -> Replay
     ensures { λ r. ⌜ r ≡ endOf answer i ⌝ }
@@ -55,8 +106,10 @@ fn replay_steps(p: Policy, trace: &[u8], right: u8) -> Replay
 {
     let n = trace.len() / 5;
     let mut matrix = p.matrix;
-    for i in 0..n {
-        let step = step_at(trace, i);
+    let mut i = 0;
+    while i < n {
+        let taken = take_step(trace, i);
+        let step = taken.step;
         let actuals = step.actuals;
         let executed = execution::execute(p, matrix, step.command, actuals, right);
         let answer = executed.answer;
@@ -65,6 +118,7 @@ fn replay_steps(p: Policy, trace: &[u8], right: u8) -> Replay
         };
         let next = executed.matrix;
         matrix = next;
+        i = taken.at;
     }
     Replay::NoLeak
 }

@@ -23,11 +23,11 @@ abbrev μ-loop : tie.MeasureT-loop
 loop-holds : tie.Need-loop-holds Inv-loop μ-loop
 loop-holds c = (omega arith, refl, canonical-wider _ _ _ _ (c .before .before .pre .few-rights) (c .before .before .pre .matrix-fits), rw sub-zero)
 
-step-at-requires : tie.Need-step-at-requires Inv-loop μ-loop
-step-at-requires c κs = omega arith
+take-step-requires : tie.Need-take-step-requires Inv-loop μ-loop
+take-step-requires c κs = omega arith
 
 execute-requires : tie.Need-execute-requires Inv-loop μ-loop
-execute-requires c κs = (c .before .before .before .before .before .before .pre, c .before .before .before .loop .inv .2)
+execute-requires c κs = (c .before .before .before .before .before .before .before .pre, c .before .before .before .before .loop .inv .2)
 
 enum-told : tie.Need-enum-told Inv-loop μ-loop
 enum-told c = search needs
@@ -37,9 +37,6 @@ end-of-requires c κs = search needs
 
 returns : tie.Need-returns Inv-loop μ-loop
 returns c = search replay-stop
-
-add-i : tie.Need-add-i Inv-loop μ-loop
-add-i c = omega arith
 
 loop-less : tie.Need-loop-less Inv-loop μ-loop
 loop-less c = omega arith
@@ -57,12 +54,11 @@ replay-steps-spec =
     Inv-loop
     μ-loop
     loop-holds
-    step-at-requires
+    take-step-requires
     execute-requires
     enum-told
     end-of-requires
     returns
-    add-i
     loop-less
     loop-again
     returns-2)
