@@ -48,11 +48,11 @@ pub struct TraceReader<'a> {
 }
 
 impl<'a> TraceReader<'a> {
-    // A reader that has come to step `at`.
-    pub fn new(trace: &'a [u8], at: usize) -> TraceReader<'a>
-        ensures { λ r. ⌜ (r .trace ≡ trace .entry) × (r .at ≡ at) ⌝ }
+    // A reader before the first step.
+    pub fn new(trace: &'a [u8]) -> TraceReader<'a>
+        ensures { λ r. ⌜ (r .trace ≡ trace .entry) × (r .at ≡ 0) ⌝ }
     {
-        TraceReader { trace, at }
+        TraceReader { trace, at: 0 }
     }
 
     // The step that lies before it.
@@ -86,7 +86,7 @@ fn end_of(answer: Answer, i: usize) -> Replay
     }
 }
 
-// A step on a matrix.
+// A step on a matrix, for the loop below, which holds a reader and so is proved by hand.
 fn play(p: Policy, matrix: Matrix, step: Step, right: u8) -> Executed
     requires { ⌜ PolicyFits p × Canonical 8 (matrix .kinds) (matrix .cells) ⌝ }
     ensures { λ r. ⌜ ExecutedAs right (outcomeOf p matrix (step .command) (step .actuals)) matrix r ⌝ }
@@ -102,7 +102,7 @@ fn replay_steps(p: Policy, trace: &[u8], right: u8) -> Replay
 {
     let n = trace.len() / 5;
     let mut matrix = p.matrix;
-    let mut reader = TraceReader::new(trace, 0);
+    let mut reader = TraceReader::new(trace);
     while reader.at < n {
         let step = reader.step();
         let executed = play(p, matrix, step, right);

@@ -28,7 +28,7 @@ use contract.Lifetimes.{Lfts}
 use contract.Monad.{Fun, fact}
 use contract.Running.{givenOf, tables, tablesOf}
 use types.Kit as Kit
-use types.Kit.{Given, Item, Sq, runs, anyQ, atRet, ‵, raw, _⊛_, ⋆, some, later, _$_, _∵_, !, qed, by, move, drop, keep, use0, use1, use2, split, join, pick, fsplit, fjoin, suffices, frame, await, rewrite, done}
+use types.Kit.{Given, Item, Sq, prop, runs, frees, anyQ, atRet, ‵, raw, _⊛_, ⋆, some, later, _$_, _∵_, !, qed, by, move, drop, keep, use0, use1, use2, split, join, pick, fsplit, fjoin, suffices, frame, await, rewrite, done}
 use types.Match.{vrt, look-tag}
 use types.Part.{whole, sub, look-in, agg}
 use types.Run.{look, init, store, forget, stop, fld, from, load, lit, of-opd, bin, and-then, no-more, assigns, land, land-last, first, skips, switches-on, stays, leaves-loop, returns, returns-within, exec, enter, alloc1, alloc0, params1, pass1, pass0, free1, free0}
@@ -150,9 +150,6 @@ step-below i l k h lt = omega arith
 less : (i j n : ℕ) → i < n → j ≡ i + 1 → n - j < n - i
 less i j n h e = omega arith
 
-next-in : (i j n : ℕ) → i < n → j ≡ i + 1 → j ≤ n
-next-in i j n h e = omega arith
-
 module _ {M : Type 1} (𝓤 : URA M) (H : Heap 𝓤) (A : Atoms 𝓤) (mem : Memory → SProp 𝓤) (run : Routine → Fun 𝓤) where
   -- the contracts that the proof cites
   abbrev New : Contract 𝓤
@@ -206,17 +203,17 @@ module _ {M : Type 1} (𝓤 : URA M) (H : Heap 𝓤) (A : Atoms 𝓤) (W : Given
 
   -- ---- the calls: what each is passed, what it asks, and what is known of its result
   abbrev to-new : New 𝓤 H A mem run .Ghost
-  to-new = (((κ, tt), (q, tt), tt, (s, (0, tt)), (v ∷ [], (vint w64 0 ∷ [], tt))), tt)
+  to-new = (((κ, tt), (q, tt), tt, (s, tt), (v ∷ [], tt)), tt)
 
   goes-new : ent 𝓤 (onEntry 𝓤 H A replay.signature (κ, tt) (q, tt) (p, (s, (right, tt))) at) (sep 𝓤 (New 𝓤 H A mem run .pre to-new) (sem 𝓤 H A Own))
   goes-new =
       qed W ((‵ Token ⊛ ‵ ftrue) ∷ ‵ (owns (P.the-row ∷ ShrSlice (named 0) κ u8 ∷ u8 ∷ []) (p, (s, (right, tt))) at) ∷ []) ∵
       move ! (1 ∷ []) $ fsplit ! $ drop ! $ fsplit ! $ use1 W (‵ Own ⊛ ‵ Own) (shr-slice-copy 𝓤 H A W (named 0) κ u8 .twice s (v ∷ [])) $ split ! $
-      move ! (2 ∷ []) $ drop ! $ nothing ! $ owned ! usize (Is usize) (uint-makes 𝓤 H A W w64) 0 _ (refl, lit< tt) $ fjoin ! $ move ! (1 ∷ 0 ∷ []) $ fjoin ! $
-      move ! (2 ∷ 0 ∷ []) $ use2 W (raw (New 𝓤 H A mem run .pre to-new)) (qed W ((‵ Token ⊛ ‵ ftrue) ∷ ‵ (owns (ShrSlice (named 0) κ u8 ∷ usize ∷ []) (s, (0, tt)) (v ∷ [], (vint w64 0 ∷ [], tt))) ∷ []) ∵ join ! $ frame ! $ done !) $ frame ! $ done !
+      move ! (2 ∷ []) $ drop ! $ nothing ! $ move ! (1 ∷ 0 ∷ []) $ fjoin ! $
+      move ! (2 ∷ 0 ∷ []) $ use2 W (raw (New 𝓤 H A mem run .pre to-new)) (qed W ((‵ Token ⊛ ‵ ftrue) ∷ ‵ (owns (ShrSlice (named 0) κ u8 ∷ []) (s, tt) (v ∷ [], tt)) ∷ []) ∵ join ! $ frame ! $ done !) $ frame ! $ done !
 
-  new-said : (r : TraceReader) → ent 𝓤 (ensured 𝓤 H A new.ended (new.clauses 𝓤 H A mem run) (κ, tt) (s, (0, tt)) tt r) (fact 𝓤 ((r .trace ≡ s) × (r .at ≡ 0)))
-  new-said r = exE 𝓤 _ (λ ws. snd∗ 𝓤 (sem 𝓤 H A (lasts new.ended (κ, tt) (s, (0, tt)) ws)) (fact 𝓤 ((r .trace ≡ s) × (r .at ≡ 0))))
+  new-said : (r : TraceReader) → ent 𝓤 (ensured 𝓤 H A new.ended (new.clauses 𝓤 H A mem run) (κ, tt) (s, tt) tt r) (fact 𝓤 ((r .trace ≡ s) × (r .at ≡ 0)))
+  new-said r = exE 𝓤 _ (λ ws. snd∗ 𝓤 (sem 𝓤 H A (lasts new.ended (κ, tt) (s, tt) ws)) (fact 𝓤 ((r .trace ≡ s) × (r .at ≡ 0))))
 
   abbrev to-step : TraceReader → StepOf 𝓤 H A mem run .Ghost
   to-step r = (((κ, tt), (q, tt), tt, (r, tt), (T′.lowered r ∷ [], tt)), tt)
@@ -288,18 +285,23 @@ module _ {M : Type 1} (𝓤 : URA M) (H : Heap 𝓤) (A : Atoms 𝓤) (W : Given
     abbrev En : Env 𝓤 H
     En = (Rp′.mir, l₀) ∷ (P′.mir, l₁) ∷ (slice, l₂) ∷ (tyInt w8, l₃) ∷ (tyInt w64, l₄) ∷ (M′.mir, l₅) ∷ (reader, l₆) ∷ (S′.mir, l₇) ∷ (X′.mir, l₈) ∷ (An′.mir, l₉) ∷ (M′.mir, l₁₀) ∷ (tyInt w64, l₁₁) ∷ (tyInt w64, l₁₂) ∷ (tyBool, l₁₃) ∷ (reader, l₁₄) ∷ (tyInt w64, l₁₅) ∷ (reader, l₁₆) ∷ []
 
+    -- the locals that a turn keeps, and those that it uses
+    abbrev Held : TraceReader → Matrix → List (Item 𝓤)
+    Held r m =
+        ‵ (fat fullShare reader l₆ 0 (T′.lowered r)) ∷ ‵ (fdies reader l₆) ∷ ‵ (fat fullShare M′.mir l₅ 0 (valM m)) ∷ ‵ (fdies M′.mir l₅) ∷ ‵ (fat fullShare (tyInt w64) l₄ 0 (vint w64 n)) ∷ ‵ (fdies (tyInt w64) l₄)
+        ∷ ‵ (fat fullShare (tyInt w8) l₃ 0 (vint w8 right)) ∷ ‵ (fdies (tyInt w8) l₃) ∷ ‵ (fat fullShare slice l₂ 0 v) ∷ ‵ (fdies slice l₂) ∷ ‵ (fat fullShare P′.mir l₁ 0 (valP p)) ∷ ‵ (fdies P′.mir l₁) ∷ ‵ (froom Rp′.mir l₀ 0) ∷ ‵ (fdies Rp′.mir l₀) ∷ []
+
     abbrev At : TraceReader → Matrix → List (Item 𝓤)
     At r m =
         ‵ (OwnR r) ∷ (‵ Token ⊛ ‵ ftrue) ∷ ‵ Own
         ∷ ‵ (froom reader l₁₆ 0) ∷ ‵ (fdies reader l₁₆) ∷ ‵ (froom (tyInt w64) l₁₅ 0) ∷ ‵ (fdies (tyInt w64) l₁₅) ∷ ‵ (froom reader l₁₄ 0) ∷ ‵ (fdies reader l₁₄)
         ∷ ‵ (froom tyBool l₁₃ 0) ∷ ‵ (fdies tyBool l₁₃) ∷ ‵ (froom (tyInt w64) l₁₂ 0) ∷ ‵ (fdies (tyInt w64) l₁₂) ∷ ‵ (fat fullShare (tyInt w64) l₁₁ 0 (vint w64 (length (now s)))) ∷ ‵ (fdies (tyInt w64) l₁₁)
         ∷ ‵ (froom M′.mir l₁₀ 0) ∷ ‵ (fdies M′.mir l₁₀) ∷ ‵ (froom An′.mir l₉ 0) ∷ ‵ (fdies An′.mir l₉) ∷ ‵ (froom X′.mir l₈ 0) ∷ ‵ (fdies X′.mir l₈) ∷ ‵ (froom S′.mir l₇ 0) ∷ ‵ (fdies S′.mir l₇)
-        ∷ ‵ (fat fullShare reader l₆ 0 (T′.lowered r)) ∷ ‵ (fdies reader l₆) ∷ ‵ (fat fullShare M′.mir l₅ 0 (valM m)) ∷ ‵ (fdies M′.mir l₅) ∷ ‵ (fat fullShare (tyInt w64) l₄ 0 (vint w64 n)) ∷ ‵ (fdies (tyInt w64) l₄)
-        ∷ ‵ (fat fullShare (tyInt w8) l₃ 0 (vint w8 right)) ∷ ‵ (fdies (tyInt w8) l₃) ∷ ‵ (fat fullShare slice l₂ 0 v) ∷ ‵ (fdies slice l₂) ∷ ‵ (fat fullShare P′.mir l₁ 0 (valP p)) ∷ ‵ (fdies P′.mir l₁) ∷ ‵ (froom Rp′.mir l₀ 0) ∷ ‵ (fdies Rp′.mir l₀) ∷ []
+        ∷ Held r m
 
     abbrev Facts : ℕ → TraceReader × Matrix → Type 0
     Facts k z =
-        (n - z .0 .at ≡ k) × (z .0 .trace ≡ s) × (z .0 .at ≤ n) × Is Mx.the-row (z .1) (valM (z .1) ∷ []) × Canonical 8 (z .1 .kinds) (z .1 .cells)
+        (n - z .0 .at ≡ k) × (z .0 .trace ≡ s) × Is Mx.the-row (z .1) (valM (z .1) ∷ []) × Canonical 8 (z .1 .kinds) (z .1 .cells)
         × (replayFrom (systemOf p) right (listed (callAt (now s)) (n - z .0 .at) (z .0 .at)) (z .0 .at) (stateOf (z .1)) ≡ all)
 
     -- the invariant, where k steps are left
@@ -313,6 +315,22 @@ module _ {M : Type 1} (𝓤 : URA M) (H : Heap 𝓤) (A : Atoms 𝓤) (W : Given
     abbrev Left : Out → SProp 𝓤
     Left = afterBlock 𝓤 H (afterSeq 𝓤 H (Wp 𝓤 H C Λ En mirs.t-6 (atReturn 𝓤 H En Post)) (atReturn 𝓤 H En Post))
 
+    -- the locals are freed
+    abbrev Rooms : List (Item 𝓤)
+    Rooms =
+        ‵ (froom reader l₁₆ 0) ∷ ‵ (fdies reader l₁₆) ∷ ‵ (froom (tyInt w64) l₁₅ 0) ∷ ‵ (fdies (tyInt w64) l₁₅) ∷ ‵ (froom reader l₁₄ 0) ∷ ‵ (fdies reader l₁₄)
+        ∷ ‵ (froom tyBool l₁₃ 0) ∷ ‵ (fdies tyBool l₁₃) ∷ ‵ (froom (tyInt w64) l₁₂ 0) ∷ ‵ (fdies (tyInt w64) l₁₂) ∷ ‵ (froom (tyInt w64) l₁₁ 0) ∷ ‵ (fdies (tyInt w64) l₁₁)
+        ∷ ‵ (froom M′.mir l₁₀ 0) ∷ ‵ (fdies M′.mir l₁₀) ∷ ‵ (froom An′.mir l₉ 0) ∷ ‵ (fdies An′.mir l₉) ∷ ‵ (froom X′.mir l₈ 0) ∷ ‵ (fdies X′.mir l₈) ∷ ‵ (froom S′.mir l₇ 0) ∷ ‵ (fdies S′.mir l₇)
+        ∷ ‵ (froom reader l₆ 0) ∷ ‵ (fdies reader l₆) ∷ ‵ (froom M′.mir l₅ 0) ∷ ‵ (fdies M′.mir l₅) ∷ ‵ (froom (tyInt w64) l₄ 0) ∷ ‵ (fdies (tyInt w64) l₄)
+        ∷ ‵ (froom (tyInt w8) l₃ 0) ∷ ‵ (fdies (tyInt w8) l₃) ∷ ‵ (froom slice l₂ 0) ∷ ‵ (fdies slice l₂) ∷ ‵ (froom P′.mir l₁ 0) ∷ ‵ (fdies P′.mir l₁) ∷ ‵ (froom Rp′.mir l₀ 0) ∷ ‵ (fdies Rp′.mir l₀) ∷ []
+
+    leaves : (r : TraceReader) (x : Replay) (u : Val) → Is Rp.the-row x (u ∷ []) → x ≡ all → Sq W ((‵ Token ⊛ ‵ ftrue) ∷ ‵ (OwnR r) ∷ ‵ Own ∷ Rooms) (frees En (prop (Post u)))
+    leaves r x u is e =
+        move ! (35 ∷ 36 ∷ []) $ free1 ! $ move ! (33 ∷ 34 ∷ []) $ free1 ! $ move ! (31 ∷ 32 ∷ []) $ free1 ! $ move ! (29 ∷ 30 ∷ []) $ free1 ! $ move ! (27 ∷ 28 ∷ []) $ free1 ! $ move ! (25 ∷ 26 ∷ []) $ free1 ! $ move ! (23 ∷ 24 ∷ []) $ free1 ! $
+        move ! (21 ∷ 22 ∷ []) $ free1 ! $ move ! (19 ∷ 20 ∷ []) $ free1 ! $ move ! (17 ∷ 18 ∷ []) $ free1 ! $ move ! (15 ∷ 16 ∷ []) $ free1 ! $ move ! (13 ∷ 14 ∷ []) $ free1 ! $ move ! (11 ∷ 12 ∷ []) $ free1 ! $
+        move ! (9 ∷ 10 ∷ []) $ free1 ! $ move ! (7 ∷ 8 ∷ []) $ free1 ! $ move ! (5 ∷ 6 ∷ []) $ free1 ! $ move ! (3 ∷ 4 ∷ []) $ free1 ! $ free0 ! $
+        keep ! (0 ∷ 2 ∷ []) $ by ! (exits x u is e)
+
     -- the turn that leaves the loop
     ends : (r : TraceReader) (m : Matrix) (K : SProp 𝓤) → ltb (r .at) n ≡ false → NoLeak ≡ all → ent 𝓤 (⋆ 𝓤 H A (At r m)) (Wp 𝓤 H C Λ En mirs.turn-1 (afterTurn 𝓤 H K Left))
     unfolding afterTurn
@@ -324,10 +342,7 @@ module _ {M : Type 1} (𝓤 : URA M) (H : Heap 𝓤) (A : Atoms 𝓤) (W : Given
         leaves-loop ! (load ! (from ! (stop !)) (look ! 9 refl)) $ exec ! C Λ En mirs.t-6 (atRet En Post) $
         assigns ! (agg ! (and-then ! (lit ! tt) (no-more !))) (from ! (stop !)) (init ! 35 refl (EL.lawful Rp.the-type Rp′.the-laws 𝓤 H A W tt .typed NoLeak (valR NoLeak ∷ []) (EL.owes Rp.the-type Rp′.the-laws NoLeak tt) .0)) $
         returns ! (look ! 35 refl) $ forget ! 9 refl $ forget ! 11 refl $ forget ! 13 refl $ forget ! 23 refl $ forget ! 25 refl $ forget ! 27 refl $ forget ! 29 refl $ forget ! 31 refl $ forget ! 33 refl $ forget ! 35 refl $
-        move ! (35 ∷ 36 ∷ []) $ free1 ! $ move ! (33 ∷ 34 ∷ []) $ free1 ! $ move ! (31 ∷ 32 ∷ []) $ free1 ! $ move ! (29 ∷ 30 ∷ []) $ free1 ! $ move ! (27 ∷ 28 ∷ []) $ free1 ! $ move ! (25 ∷ 26 ∷ []) $ free1 ! $ move ! (23 ∷ 24 ∷ []) $ free1 ! $
-        move ! (21 ∷ 22 ∷ []) $ free1 ! $ move ! (19 ∷ 20 ∷ []) $ free1 ! $ move ! (17 ∷ 18 ∷ []) $ free1 ! $ move ! (15 ∷ 16 ∷ []) $ free1 ! $ move ! (13 ∷ 14 ∷ []) $ free1 ! $ move ! (11 ∷ 12 ∷ []) $ free1 ! $
-        move ! (9 ∷ 10 ∷ []) $ free1 ! $ move ! (7 ∷ 8 ∷ []) $ free1 ! $ move ! (5 ∷ 6 ∷ []) $ free1 ! $ move ! (3 ∷ 4 ∷ []) $ free1 ! $ free0 ! $
-        drop ! $ by ! (exits NoLeak (valR NoLeak) (EL.owes Rp.the-type Rp′.the-laws NoLeak tt) e))
+        move ! (1 ∷ 0 ∷ []) $ leaves r NoLeak (valR NoLeak) (EL.owes Rp.the-type Rp′.the-laws NoLeak tt) e)
 
     -- ---- a turn that does a step
     -- a turn's answer is taken apart; one that is not `Done` ends the replay; what follows `Done`
@@ -347,8 +362,7 @@ module _ {M : Type 1} (𝓤 : URA M) (H : Heap 𝓤) (A : Atoms 𝓤) (W : Given
         ∷ ‵ (froom reader l₁₆ 0) ∷ ‵ (fdies reader l₁₆) ∷ ‵ (froom (tyInt w64) l₁₅ 0) ∷ ‵ (fdies (tyInt w64) l₁₅) ∷ ‵ (fat fullShare reader l₁₄ 0 (T′.lowered r)) ∷ ‵ (fdies reader l₁₄)
         ∷ ‵ (fat fullShare tyBool l₁₃ 0 (vbool true)) ∷ ‵ (fdies tyBool l₁₃) ∷ ‵ (fat fullShare (tyInt w64) l₁₂ 0 (vint w64 (r .at))) ∷ ‵ (fdies (tyInt w64) l₁₂) ∷ ‵ (fat fullShare (tyInt w64) l₁₁ 0 (vint w64 (length (now s)))) ∷ ‵ (fdies (tyInt w64) l₁₁)
         ∷ ‵ (froom M′.mir l₁₀ 0) ∷ ‵ (fdies M′.mir l₁₀) ∷ ‵ (fat fullShare An′.mir l₉ 0 (valA a)) ∷ ‵ (fdies An′.mir l₉) ∷ ‵ (fat fullShare X′.mir l₈ 0 (valX e)) ∷ ‵ (fdies X′.mir l₈) ∷ ‵ (fat fullShare S′.mir l₇ 0 (valS t)) ∷ ‵ (fdies S′.mir l₇)
-        ∷ ‵ (fat fullShare reader l₆ 0 (T′.lowered r)) ∷ ‵ (fdies reader l₆) ∷ ‵ (fat fullShare M′.mir l₅ 0 (valM m)) ∷ ‵ (fdies M′.mir l₅) ∷ ‵ (fat fullShare (tyInt w64) l₄ 0 (vint w64 n)) ∷ ‵ (fdies (tyInt w64) l₄)
-        ∷ ‵ (fat fullShare (tyInt w8) l₃ 0 (vint w8 right)) ∷ ‵ (fdies (tyInt w8) l₃) ∷ ‵ (fat fullShare slice l₂ 0 v) ∷ ‵ (fdies slice l₂) ∷ ‵ (fat fullShare P′.mir l₁ 0 (valP p)) ∷ ‵ (fdies P′.mir l₁) ∷ ‵ (froom Rp′.mir l₀ 0) ∷ ‵ (fdies Rp′.mir l₀) ∷ []
+        ∷ Held r m
 
     module _ (r : TraceReader) (m : Matrix) (K : SProp 𝓤) (is : Is (B (κ, tt)) r (T′.lowered r ∷ [])) where
       abbrev Next : Kit.Post 𝓤 H
@@ -371,10 +385,7 @@ module _ {M : Type 1} (𝓤 : URA M) (H : Heap 𝓤) (A : Atoms 𝓤) (W : Given
           peeks ! Rp.the-row (Is Rp.the-row) (shows 𝓤 H A Rp.the-row) x (u ∷ []) (λ is-x. drop ! $
           land ! (from ! (stop !)) (init ! 35 refl (EL.lawful Rp.the-type Rp′.the-laws 𝓤 H A W tt .typed x _ is-x .0)) $
           returns-within ! Post refl (look ! 35 refl) $ forget ! 5 refl $ forget ! 7 refl $ forget ! 9 refl $ forget ! 11 refl $ forget ! 13 refl $ forget ! 17 refl $ forget ! 19 refl $ forget ! 21 refl $ forget ! 23 refl $ forget ! 25 refl $ forget ! 27 refl $ forget ! 29 refl $ forget ! 31 refl $ forget ! 33 refl $ forget ! 35 refl $
-          move ! (35 ∷ 36 ∷ []) $ free1 ! $ move ! (33 ∷ 34 ∷ []) $ free1 ! $ move ! (31 ∷ 32 ∷ []) $ free1 ! $ move ! (29 ∷ 30 ∷ []) $ free1 ! $ move ! (27 ∷ 28 ∷ []) $ free1 ! $ move ! (25 ∷ 26 ∷ []) $ free1 ! $ move ! (23 ∷ 24 ∷ []) $ free1 ! $
-          move ! (21 ∷ 22 ∷ []) $ free1 ! $ move ! (19 ∷ 20 ∷ []) $ free1 ! $ move ! (17 ∷ 18 ∷ []) $ free1 ! $ move ! (15 ∷ 16 ∷ []) $ free1 ! $ move ! (13 ∷ 14 ∷ []) $ free1 ! $ move ! (11 ∷ 12 ∷ []) $ free1 ! $
-          move ! (9 ∷ 10 ∷ []) $ free1 ! $ move ! (7 ∷ 8 ∷ []) $ free1 ! $ move ! (5 ∷ 6 ∷ []) $ free1 ! $ move ! (3 ∷ 4 ∷ []) $ free1 ! $ free0 ! $
-          keep ! (0 ∷ 2 ∷ []) $ by ! (exits x u is-x (reported x said))))))
+          leaves r x u is-x (reported x said)))))
 
       goes-on : (t : Step) (e : Executed) (a : Answer) → Is Mx.the-row (e .matrix) (valM (e .matrix) ∷ []) → r .at + 1 < 2 ^ 64 → ((r′ : TraceReader) → (r′ .trace ≡ r .trace) × (r′ .at ≡ r .at + 1) → ent 𝓤 (⋆ 𝓤 H A (At r′ (e .matrix))) K)
           → Sq W (Mid r m t e a) (runs C Λ En the-rest Next)
@@ -411,7 +422,7 @@ module _ {M : Type 1} (𝓤 : URA M) (H : Heap 𝓤) (A : Atoms 𝓤) (W : Given
     more : (r : TraceReader) (m : Matrix) (K : SProp 𝓤) → ltb (r .at) n ≡ true → r .trace ≡ s → Is Mx.the-row m (valM m ∷ []) → Canonical 8 (m .kinds) (m .cells)
         → replayFrom (systemOf p) right (listed (callAt (now s)) (n - r .at) (r .at)) (r .at) (stateOf m) ≡ all
         → ((r′ : TraceReader) (e : Executed) → (r′ .trace ≡ s) × (r′ .at ≡ r .at + 1) → Is Mx.the-row (e .matrix) (valM (e .matrix) ∷ []) → Canonical 8 (e .matrix .kinds) (e .matrix .cells)
-            → replayFrom (systemOf p) right (listed (callAt (now s)) (n - r′ .at) (r′ .at)) (r′ .at) (stateOf (e .matrix)) ≡ all → ent 𝓤 (⋆ 𝓤 H A (At r′ (e .matrix))) K)
+        → replayFrom (systemOf p) right (listed (callAt (now s)) (n - r′ .at) (r′ .at)) (r′ .at) (stateOf (e .matrix)) ≡ all → ent 𝓤 (⋆ 𝓤 H A (At r′ (e .matrix))) K)
         → ent 𝓤 (⋆ 𝓤 H A (At r m)) (Wp 𝓤 H C Λ En mirs.turn-1 (afterTurn 𝓤 H K Left))
     unfolding afterTurn
     more r m K on same is-m can inv again =
@@ -462,10 +473,10 @@ module _ {M : Type 1} (𝓤 : URA M) (H : Heap 𝓤) (A : Atoms 𝓤) (W : Given
     turn-at k z f = go (ltb (z .0 .at) n) refl
       where
         go : (b : Bool) → ltb (z .0 .at) n ≡ b → ent 𝓤 (⋆ 𝓤 H A (At (z .0) (z .1))) (Wp 𝓤 H C Λ En mirs.turn-1 (afterTurn 𝓤 H (Below k) Left))
-        go true on = more (z .0) (z .1) (Below k) on (f .1) (f .3) (f .4) (f .5) (λ r′ e said is-m can inv.
+        go true on = more (z .0) (z .1) (Below k) on (f .1) (f .2) (f .3) (f .4) (λ r′ e said is-m can inv.
             falls k (n - r′ .at) (r′, e .matrix) (subst (λ (j : ℕ). n - r′ .at < j) (f .0) (less (z .0 .at) (r′ .at) n (ltb-true (z .0 .at) n on) (said .1)))
-            (refl, said .0, next-in (z .0 .at) (r′ .at) n (ltb-true (z .0 .at) n on) (said .1), is-m, can, inv))
-        go false over = ends (z .0) (z .1) (Below k) over (replay-end p (now s) right n (z .0 .at) (z .1) all (ltb-false (z .0 .at) n over) (f .5))
+            (refl, said .0, is-m, can, inv))
+        go false over = ends (z .0) (z .1) (Below k) over (replay-end p (now s) right n (z .0 .at) (z .1) all (ltb-false (z .0 .at) n over) (f .4))
 
     turns : (k : ℕ) → ent 𝓤 (Inv k) (Wp 𝓤 H C Λ En mirs.turn-1 (afterTurn 𝓤 H (Below k) Left))
     turns k = exE 𝓤 (λ (z : TraceReader × Matrix). guard 𝓤 (Facts k z) (⋆ 𝓤 H A (At (z .0) (z .1)))) (λ z. guardE 𝓤 (Facts k z) (⋆ 𝓤 H A (At (z .0) (z .1))) (λ f. turn-at k z f))
@@ -474,7 +485,7 @@ module _ {M : Type 1} (𝓤 : URA M) (H : Heap 𝓤) (A : Atoms 𝓤) (W : Given
     loops r e is-m =
         via 𝓤 (Inv (n - r .at))
         (begins (n - r .at) (r, p .matrix)
-        (refl, e .0, omega (arith, e .1), is-m, canonical-wider _ _ _ _ (ok .few-rights) (ok .matrix-fits), ap (λ (i : ℕ). replayFrom (systemOf p) right (listed (callAt (now s)) (n - i) i) i (stateOf (p .matrix))) (e .1) ∙ rw sub-zero))
+        (refl, e .0, is-m, canonical-wider _ _ _ _ (ok .few-rights) (ok .matrix-fits), ap (λ (i : ℕ). replayFrom (systemOf p) right (listed (callAt (now s)) (n - i) i) i (stateOf (p .matrix))) (e .1) ∙ rw sub-zero))
         (loop-rule 𝓤 H (W .laws) 𝓣 _<_ (Nat·lt-wfRel .wf) En mirs.turn-1 Left Inv turns (n - r .at))
 
     -- ---- the MIR, up to the loop
@@ -505,8 +516,8 @@ module _ {M : Type 1} (𝓤 : URA M) (H : Heap 𝓤) (A : Atoms 𝓤) (W : Given
     reads : Triple 𝓤 (C #trace·new) (New 𝓤 H A mem run) → Sq W Ready (runs C Λ En mirs.t-4 (atRet En Post))
     reads known-new =
         move ! (34 ∷ []) $ use1 W (raw (New 𝓤 H A mem run .pre to-new) ⊛ ‵ Own) goes-new $ split ! $
-        calls-at ! fm (New 𝓤 H A mem run) known-new to-new (and-then ! (load ! (from ! (stop !)) (look ! 30 refl)) (and-then ! (lit ! tt) (no-more !))) (λ u.
-        use1 W (later (some (λ (r : TraceReader). ((‵ Token ⊛ ‵ ftrue) ⊛ ‵ (B (κ, tt) .own r (u ∷ []))) ⊛ raw (ensured 𝓤 H A new.ended (new.clauses 𝓤 H A mem run) (κ, tt) (s, (0, tt)) tt r)))) (id⊢ 𝓤 _) $ await ! tt $ pick ! (λ r.
+        calls-at ! fm (New 𝓤 H A mem run) known-new to-new (and-then ! (load ! (from ! (stop !)) (look ! 30 refl)) (no-more !)) (λ u.
+        use1 W (later (some (λ (r : TraceReader). ((‵ Token ⊛ ‵ ftrue) ⊛ ‵ (B (κ, tt) .own r (u ∷ []))) ⊛ raw (ensured 𝓤 H A new.ended (new.clauses 𝓤 H A mem run) (κ, tt) (s, tt) tt r)))) (id⊢ 𝓤 _) $ await ! tt $ pick ! (λ r.
         split ! $ move ! (1 ∷ []) $ use1 W (raw (fact 𝓤 ((r .trace ≡ s) × (r .at ≡ 0)))) (new-said r) $ heard ! ((r .trace ≡ s) × (r .at ≡ 0)) (λ e. split ! $ move ! (1 ∷ []) $
         peeks ! (B (κ, tt)) (Is (B (κ, tt))) (shows 𝓤 H A (B (κ, tt))) r (u ∷ []) (λ is.
         land ! (from ! (stop !)) (init ! 23 refl (LL.lawful (T.the-type αᵉ) (T′.the-laws αᵉ) 𝓤 H A W .typed r _ is .0)) $
