@@ -5,11 +5,15 @@ ghost use lib.ListN.{length};
 ghost use Rattle.policy.specs.Contents.{systemOf};
 ghost use Rattle.policy.specs.Fits.{PolicyFits};
 ghost use Rattle.matrix.specs.Matrices.{stateOf};
+ghost use Rattle.matrix.specs.Canonical.{Canonical};
+ghost use Rattle.execution.specs.Runs.{outcomeOf, ExecutedAs};
 ghost use Rattle.trace.specs.Traces.{stepAt, calls, stepsIn};
 ghost use Rattle.trace.specs.Replays.{replayFrom, fileReplay};
 ghost use Rattle.trace.specs.Ends.{endOf};
 use commands::Command;
 use execution::Answer;
+use execution::Executed;
+use matrix::Matrix;
 use policy::Policy;
 
 // One step of a trace: a command's number and four actuals.
@@ -44,11 +48,11 @@ pub struct TraceReader<'a> {
 }
 
 impl<'a> TraceReader<'a> {
-    // A reader that has come to step `at`.
-    pub fn new(trace: &'a [u8], at: usize) -> TraceReader<'a>
-        ensures { λ r. ⌜ (r .trace ≡ trace .entry) × (r .at ≡ at) ⌝ }
+    // A reader before the first step.
+    pub fn new(trace: &'a [u8]) -> TraceReader<'a>
+        ensures { λ r. ⌜ (r .trace ≡ trace .entry) × (r .at ≡ 0) ⌝ }
     {
-        TraceReader { trace, at }
+        TraceReader { trace, at: 0 }
     }
 
     // The step that lies before it.
@@ -71,23 +75,6 @@ impl<'a> TraceReader<'a> {
     }
 }
 
-// A step, and how far the reader has come with it.
-pub struct Taken {
-    pub step: Step,
-    pub at: usize,
-}
-
-// Takes step i of a trace: the reader between two turns of a loop over plain slices.
-fn take_step(trace: &[u8], i: usize) -> Taken
-    requires { ⌜ 5 * i + 5 ≤ length (now trace) ⌝ }
-    ensures { λ r. ⌜ (r .step ≡ stepAt (now (trace .entry)) i) × (r .at ≡ i + 1) ⌝ }
-{
-    let reader = TraceReader::new(trace, i);
-    let step = reader.step();
-    let next = reader.past();
-    Taken { step, at: next.at }
-}
-
 // How a replay ends at step i.
 fn end_of(answer: Answer, i: usize) -> Replay
     ensures { λ r. ⌜ r ≡ endOf answer i ⌝ }
@@ -99,6 +86,15 @@ fn end_of(answer: Answer, i: usize) -> Replay
     }
 }
 
+// A step on a matrix, for the loop below, which holds a reader and so is proved by hand.
+fn play(p: Policy, matrix: Matrix, step: Step, right: u8) -> Executed
+    requires { ⌜ PolicyFits p × Canonical 8 (matrix .kinds) (matrix .cells) ⌝ }
+    ensures { λ r. ⌜ ExecutedAs right (outcomeOf p matrix (step .command) (step .actuals)) matrix r ⌝ }
+{
+    let actuals = step.actuals;
+    execution::execute(p, matrix, step.command, actuals, right)
+}
+
 // The steps in order, on a copy of the matrix.
 fn replay_steps(p: Policy, trace: &[u8], right: u8) -> Replay
     requires { ⌜ PolicyFits p ⌝ }
@@ -106,19 +102,17 @@ fn replay_steps(p: Policy, trace: &[u8], right: u8) -> Replay
 {
     let n = trace.len() / 5;
     let mut matrix = p.matrix;
-    let mut i = 0;
-    while i < n {
-        let taken = take_step(trace, i);
-        let step = taken.step;
-        let actuals = step.actuals;
-        let executed = execution::execute(p, matrix, step.command, actuals, right);
+    let mut reader = TraceReader::new(trace);
+    while reader.at < n {
+        let step = reader.step();
+        let executed = play(p, matrix, step, right);
         let answer = executed.answer;
         let Answer::Done = answer else {
-            return end_of(answer, i);
+            return end_of(answer, reader.at);
         };
         let next = executed.matrix;
         matrix = next;
-        i = taken.at;
+        reader = reader.past();
     }
     Replay::NoLeak
 }
