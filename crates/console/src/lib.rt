@@ -52,3 +52,15 @@ pub fn read_file(path: &[u8], buf: &mut [u8]) -> Reading
     libc::close(fd);
     Reading { whole: true, count }
 }
+
+// A path names a symbolic link; one that is too long for any file does not.
+pub fn is_link(path: &[u8]) -> bool {
+    if libc::PATH_MAX <= path.len() {
+        return false;
+    }
+    let mut name = [0u8; libc::PATH_MAX];
+    bytes::copy(path, &mut name);
+    name[libc::PATH_MAX - 1] = 0;
+    let mut text = [0u8; 1];
+    0 <= libc::readlink(&name, &mut text)
+}

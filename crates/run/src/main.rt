@@ -198,6 +198,12 @@ fn run_rule(path: &[u8], rule: u8, a0: u8, a1: u8, a2: u8, a3: u8) {
     if !is_there(path) {
         return;
     }
+    // A rename would put a file in the link's place, and leave the file that it leads to as it was.
+    if console::is_link(path) {
+        io::write_all(STDERR_FILENO, path);
+        io::write_all(STDERR_FILENO, b": a symbolic link; name the file itself\n");
+        return;
+    }
     let mut name = name_buffer();
     let n = answers::new_path(path, &mut name);
     run_beside(path, &name[..n], rule, a0, a1, a2, a3);

@@ -221,20 +221,19 @@ fn wait(time: Duration) {
     }
 }
 
-/// Kills a run after a random time, up to a little more than a whole one takes.
+/// Kills a run after a random time, up to twice what a whole one takes. That
+/// changes with what else the machine does, so the time follows what was left.
 fn kill(programs: &Programs, group: &mut Group, random: &mut Random) {
     programs.clear();
     programs.write(FILE, &seesaw().file());
-    let mut times = Vec::new();
-    for _ in 0..21 {
+    let mut most = Duration::ZERO;
+    for _ in 0..20 {
         let (rule, after) = next(&programs.file());
         let start = Instant::now();
         let answer = programs.call(&["run", FILE, rule, "5"]);
-        times.push(start.elapsed());
+        most = most.max(start.elapsed());
         programs.check(group, answer, printed("DONE\n"), &after, &[FILE], "whole");
     }
-    times.sort();
-    let whole = times[10];
     let (mut old, mut new, mut midst, mut kills) = (0, 0, 0, 0);
     while kills < 400 || (kills < 4_000 && (old < 50 || new < 50 || midst < 5)) {
         kills += 1;
@@ -246,7 +245,7 @@ fn kill(programs: &Programs, group: &mut Group, random: &mut Random) {
             .stderr(Stdio::piped())
             .spawn()
             .expect("it was run before");
-        wait(whole.mul_f64(random.below(1_300) as f64 / 1_000.0));
+        wait(most.mul_f64(random.below(1_000) as f64 / 1_000.0));
         let _ = child.kill();
         let output = child.wait_with_output().expect("a child of ours");
         let there = programs.file();
@@ -259,8 +258,10 @@ fn kill(programs: &Programs, group: &mut Group, random: &mut Random) {
         );
         if there == before {
             old += 1;
+            most = most.mul_f64(1.05).min(Duration::from_millis(200));
         } else {
             new += 1;
+            most = most.mul_f64(0.95).max(Duration::from_micros(100));
         }
         let names = programs.names();
         if names == [FILE, NEW] {
@@ -388,6 +389,17 @@ fn no_output(programs: &Programs, group: &mut Group) {
         &[FILE],
         "full standard output",
     );
+}
+
+/// A rename would replace the link and leave its file as it was.
+fn linked(programs: &Programs, group: &mut Group) {
+    programs.clear();
+    let file = seesaw().file();
+    programs.write(FILE, &file);
+    std::os::unix::fs::symlink(FILE, programs.scratch.join("link")).expect("a link can be made");
+    let answer = programs.call(&["run", "link", "0", "5"]);
+    let wanted = told("link: a symbolic link; name the file itself\n");
+    programs.check(group, answer, wanted, &file, &[FILE, "link"], "a link");
 }
 
 /// Four at once, each creating names of its own: no run is lost.
@@ -559,6 +571,7 @@ fn main() {
         println!("no room: a full disk: no file system may be mounted here, left out");
     }
     report.group("no standard output", 1, |group| no_output(&programs, group));
+    report.group("a symbolic link", 1, |group| linked(&programs, group));
     report.group("several at once", 32, |group| at_once(&programs, group));
 
     programs.clear();
