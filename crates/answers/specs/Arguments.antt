@@ -27,6 +27,11 @@ numberStep t i v = digitAfter v (getD t i 0)
 unfoldable pub numberOf : List ℕ → ℕ
 numberOf t = pick (eqb (length t) 0) none (turns (numberStep t) (length t) 0 0)
 
+-- the number of some text: which one stands among a program's arguments C alone can tell
+pub record SomeNumber (r : ℕ) : Type 0 where
+  pub text : List ℕ
+  pub is : r ≡ numberOf text
+
 -- ---- the path
 abbrev pub slash : ℕ
 slash = 47

@@ -1,4 +1,5 @@
 // What the programs `run` and `replay` share: numbers among the arguments, and files read whole. What went wrong is said on standard error.
+ghost use Rattle.answers.specs.Arguments.{SomeNumber};
 ghost use Rattle.io.specs.Counts.{Counts};
 
 // The longest text that is looked at for a number.
@@ -11,7 +12,9 @@ pub struct Reading {
 }
 
 // Argument i as a number from 0 to 255, or answers::NONE.
-pub fn number_at(i: usize) -> usize {
+pub fn number_at(i: usize) -> usize
+    ensures { λ r. ⌜ SomeNumber r ⌝ }
+{
     let mut text = [0u8; DIGITS];
     let n = os::arg(i, &mut text);
     if os::errno() != 0 {
@@ -51,16 +54,4 @@ pub fn read_file(path: &[u8], buf: &mut [u8]) -> Reading
     }
     libc::close(fd);
     Reading { whole: true, count }
-}
-
-// A path names a symbolic link; one that is too long for any file does not.
-pub fn is_link(path: &[u8]) -> bool {
-    if libc::PATH_MAX <= path.len() {
-        return false;
-    }
-    let mut name = [0u8; libc::PATH_MAX];
-    bytes::copy(path, &mut name);
-    name[libc::PATH_MAX - 1] = 0;
-    let mut text = [0u8; 1];
-    0 <= libc::readlink(&name, &mut text)
 }

@@ -194,12 +194,24 @@ fn run_beside(path: &[u8], new: &[u8], rule: u8, a0: u8, a1: u8, a2: u8, a3: u8)
     }
 }
 
+// A path names a symbolic link; one that is too long for any file does not.
+fn is_link(path: &[u8]) -> bool {
+    if libc::PATH_MAX <= path.len() {
+        return false;
+    }
+    let mut name = [0u8; libc::PATH_MAX];
+    bytes::copy(path, &mut name);
+    name[libc::PATH_MAX - 1] = 0;
+    let mut text = [0u8; 1];
+    0 <= libc::readlink(&name, &mut text)
+}
+
 fn run_rule(path: &[u8], rule: u8, a0: u8, a1: u8, a2: u8, a3: u8) {
     if !is_there(path) {
         return;
     }
     // A rename would put a file in the link's place, and leave the file that it leads to as it was.
-    if console::is_link(path) {
+    if is_link(path) {
         io::write_all(STDERR_FILENO, path);
         io::write_all(STDERR_FILENO, b": a symbolic link; name the file itself\n");
         return;
