@@ -3,3 +3,4 @@ pub mod Shapes
 pub mod Goodness
 pub mod Founds
 pub mod Picking
+pub mod Closing
