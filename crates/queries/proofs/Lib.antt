@@ -4,3 +4,4 @@ pub mod Goodness
 pub mod Founds
 pub mod Picking
 pub mod Untested
+pub mod Closing
