@@ -10,3 +10,4 @@ pub mod Rounding
 pub mod ClosingCalls
 pub mod Concluding
 pub mod Demand3
+pub mod TestMarks
