@@ -4,3 +4,4 @@ pub mod Goodness
 pub mod Founds
 pub mod Picking
 pub mod Closing
+pub mod OwnConditions
