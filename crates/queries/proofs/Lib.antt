@@ -5,3 +5,4 @@ pub mod Founds
 pub mod Picking
 pub mod Closing
 pub mod OwnConditions
+pub mod PlaceCount
