@@ -10,4 +10,3 @@ pub mod Rounding
 pub mod ClosingCalls
 pub mod Concluding
 pub mod Demand3
-pub mod TestMarks
