@@ -7,7 +7,6 @@ pub mod Buffers
 pub mod Visits
 pub mod Trying
 pub mod Rounding
-pub mod ClosingCalls
 pub mod Concluding
 pub mod Demand3
 pub mod TestMarks
