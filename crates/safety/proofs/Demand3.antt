@@ -30,11 +30,12 @@ use Rattle.policy.specs.declared.PolicyRead.{PolicyRead}
 use Rattle.policy.proofs.Laws.{read-refusal, read-policy}
 use Rattle.policy.proofs.ReadPolicy.{policy-fits-read}
 use Rattle.trace.specs.Traces.{callAt, calls}
-use Rattle.safety.specs.Judgement.{oneStep, boundOf, callerRefusal, judgeRefusal, fileVerdict, judgementOf, fileJudgement, stepsWritten, isSafe, isUnsafe, filled, fileBuffer, Demand3, Judged}
-use Rattle.safety.specs.Engine.{SingleSteps, Asked, Concluded}
+use Rattle.safety.specs.Judgement.{oneStep, callerRefusal, judgeRefusal, fileVerdict, judgementOf, fileJudgement, stepsWritten, isSafe, isUnsafe, filled, fileBuffer, Demand3, Judged}
+use Rattle.rounds.specs.Engine.{boundOf, SingleSteps, Asked}
+use Rattle.safety.specs.Conclusion.{Concluded}
 use Rattle.safety.specs.declared.Judgement.{Judgement}
 use Rattle.safety.specs.declared.Judgement.the-variants.{Refused, Safe, Unsafe}
-use Rattle.safety.proofs.Asked.{taken}
+use Rattle.rounds.proofs.Asked.{taken}
 use Rattle.safety.proofs.Buffers.{calls-back, rest-behind}
 
 -- ---- a question that is not refused

@@ -1,12 +1,4 @@
-pub mod Steps
-pub mod Carrying
-pub mod Asked
-pub mod Firsts
 pub mod Counts
 pub mod Buffers
-pub mod Visits
-pub mod Trying
-pub mod Rounding
-pub mod ClosingCalls
 pub mod Concluding
 pub mod Demand3

@@ -20,6 +20,7 @@ use Rattle.policy.specs.Refusals.{refusal}
 use Rattle.policy.specs.Contents.{policyOf, fileState, fileSystem}
 use Rattle.policy.specs.declared.Policy.{Policy}
 use Rattle.trace.specs.Traces.{calls}
+use Rattle.rounds.specs.Engine.{boundOf}
 use Rattle.safety.specs.declared.Judgement.{Judgement}
 use Rattle.safety.specs.declared.Judgement.the-variants.{Refused, Safe, Unsafe}
 
@@ -27,10 +28,6 @@ use Rattle.safety.specs.declared.Judgement.the-variants.{Refused, Safe, 
 -- not 22, "a rule with more than one step"
 abbrev pub oneStep : Policy → ℕ → Bool
 oneStep p i = ltb (getD (p .command) i missing .operations) 2
-
--- the steps for which there must be room: "g × (subjects + 1) × (names + 2) + 4"
-abbrev pub boundOf : Policy → ℕ
-boundOf p = stepBound (p .rights) (stateOf (p .matrix))
 
 -- "21 right not below g. Judge only, in this order: 22 a rule with more than one step; 23 more than 30 names exist; 24 buffer shorter than 5 × .." n is the
 -- buffer's length; 0 is no refusal.

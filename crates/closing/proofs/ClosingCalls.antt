@@ -1,0 +1,270 @@
+-- The closing search at one cell: the loop over the commands, on the matrix as it is and on the matrix without the right. Assumes nothing.
+use Prim.Native.Nat.{ℕ, zero, suc, _+_, _-_, _≤_, _<_}
+use mathlib.Core.Path.{_≡_, refl, sym, ap, ap₂, _∙_, subst}
+use mathlib.Core.Bool.{Bool, true, false, not, _&&_}
+use mathlib.Core.List.{List, []}
+use mathlib.Core.Option.{Option, none, some}
+use native.Mathlib.Omega.{arith}
+use native.Mathlib.Decide.{decLt}
+use native.Mathlib.Nat.{sub-zero}
+use native.Mathlib.Numerals.{add-one}
+use borrow.Author.Tests.{lt-ltb, le-ltb, not-true}
+use lib.Dec.{ltb}
+use lib.ListN.{getD, getElem?}
+use Rattle.cases.specs.Cases.{pick, listed}
+use Rattle.rights.specs.Rights.{has}
+use Rattle.rights.proofs.Sets.{has-none}
+use Rattle.protection.specs.Limits.{names, rights}
+use Rattle.protection.specs.State.{State}
+use Rattle.protection.specs.Command.{Command as ModelCommand, System, Call, actuals}
+use Rattle.protection.specs.Execution.{takeOut}
+use Rattle.protection.specs.Judge.{firstIn, namesAt, choices, operationIn, placesOf, fourOf, callAt, allowed, deletesAt, entersAt, takes, returns, firstCall, both, isEmpty}
+use Rattle.matrix.specs.Matrices.{stateOf, deleted}
+use Rattle.matrix.specs.declared.Matrix.{Matrix}
+use Rattle.masks.specs.First.{first}
+use Rattle.masks.specs.Told.{cleared}
+use Rattle.masks.specs.declared.Tables.{Tables}
+use Rattle.masks.proofs.First.{Least, least}
+use Rattle.commands.specs.Contents.{missing, operationAt, meaning}
+use Rattle.commands.specs.declared.Command.{Command}
+use Rattle.queries.specs.Useful.{doable, namesOfPlace, touchesAt, Tried}
+use Rattle.queries.proofs.Picking.{first-same, gone-state, gone-seen}
+use Rattle.policy.specs.Contents.{systemOf}
+use Rattle.policy.specs.Fits.{PolicyFits}
+use Rattle.policy.specs.declared.Policy.{Policy}
+use Rattle.rounds.specs.Engine.{commandNumber, SingleSteps}
+use Rattle.rounds.proofs.Asked.{command-found}
+use Rattle.rounds.proofs.Visits.{allowed-is}
+use Rattle.closing.specs.Closing.{foundCall, pairOf, concernsIn, ConcernedBy, touching, firstTouching, placeTouching, touchingIn, bothAt, Closable, Closing}
+use Rattle.closing.specs.declared.Found.{Found}
+use Rattle.closing.specs.declared.Pair.{Pair}
+use Rattle.closing.proofs.PassedBy.{command-tried, nothing-touching}
+
+-- ---- for `call_of`
+module _ (m : State) (r s o n i : ℕ) (enters : Bool) (C : ModelCommand) (at : ℕ) (found : at ≡ firstIn (touchesAt enters m r s o C n) (placesOf C n) 0) (size : ℕ) (size-is : size ≡ placesOf C n) where
+  here : _≡_ {A = Option Call} (pick (ltb at size) (some (callAt i C n at)) none) (touchingIn enters m r s o n i C)
+  unfolding touchingIn placeTouching
+  here = ap₂ (λ (a k : ℕ). pick (ltb a k) (some (callAt i C n a)) none) found size-is
+
+  pub call-found : at < size → (a : List ℕ) → a ≡ namesAt (choices C n) at → (x : Found) → x ≡ record { found = true; rule = i; actuals = a } → foundCall x ≡ touchingIn enters m r s o n i C
+  call-found l a d x f =
+      ap foundCall f ∙ ap (λ (l : List ℕ). some (fourOf i l)) d
+      ∙ ap (λ (b : Bool). pick b (some (callAt i C n at)) none) (sym (lt-ltb at size l)) ∙ here
+
+  pub call-missing : size ≤ at → (x : Found) → foundCall x ≡ none → foundCall x ≡ touchingIn enters m r s o n i C
+  call-missing l x f = f ∙ ap (λ (b : Bool). pick b (some (callAt i C n at)) none) (sym (le-ltb at size l)) ∙ here
+
+-- ---- the loop over the commands
+-- the first of two that is there
+orElse : Option Call → Option Call → Option Call
+orElse none y = y
+orElse (some x) y = some x
+
+or-picked : (b : Bool) (x : Call) (y : Option Call) → _≡_ {A = Option Call} (elim b [ true ↦ some x | false ↦ y ]) (orElse (pick b (some x) none) y)
+unfolding orElse
+or-picked true x y = refl
+or-picked false x y = refl
+
+or-none : (x y : Option Call) → x ≡ none → orElse x y ≡ y
+unfolding orElse
+or-none x y e = rw e
+
+or-found : (b : Bool) (x : Call) (y : Option Call) → b ≡ true → _≡_ {A = Option Call} (pick b (some x) none) (orElse (pick b (some x) none) y)
+unfolding orElse
+or-found b x y e = rw e
+
+touching-is : (enters : Bool) (S : System) (m : State) (r s o i : ℕ) (C : ModelCommand) → getElem? (S .commands) i ≡ some C → (n q : ℕ)
+    → touchesAt enters m r s o C n q ≡ touching enters S m r s o C (callAt i C n q)
+touching-is enters S m r s o i C found n q = go (pick enters (entersAt r s o (namesOfPlace C n q) (operationIn C)) (deletesAt r s o (namesOfPlace C n q) (operationIn C)))
+  where
+    go : (b : Bool) → _≡_ {A = Bool} (elim b [ true ↦ doable C m (namesOfPlace C n q) | false ↦ false ]) (elim b [ true ↦ allowed S m (callAt i C n q) | false ↦ false ])
+    go true = sym (allowed-is S i C found m n q)
+    go false = refl
+
+module _ (p : Policy) (m : State) (n r s o : ℕ) (enters : Bool) where
+  abbrev S : System
+  S = systemOf p
+
+  abbrev P : ModelCommand → Call → Bool
+  P = touching enters S m r s o
+
+  -- what is found from command i on
+  pub from : ℕ → Option Call
+  from i = firstCall P n i (listed (commandNumber p) (p .commands - i) i)
+
+  -- what is found in command i
+  abbrev found : ℕ → Option Call
+  found i = touchingIn enters m r s o n i (commandNumber p i)
+
+  from-start : from 0 ≡ firstTouching enters S m r s o n
+  unfolding from firstTouching
+  from-start = ap (λ (k : ℕ). firstCall P n 0 (listed (commandNumber p) k 0)) (sub-zero (p .commands))
+
+  from-end : (i : ℕ) → p .commands ≤ i → from i ≡ none
+  unfolding from
+  from-end i l = let z : p .commands - i ≡ 0 = omega arith in ap (λ (k : ℕ). firstCall P n i (listed (commandNumber p) k i)) z
+
+  from-more : (i : ℕ) → i < p .commands → from i ≡ orElse (found i) (from (i + 1))
+  unfolding from touchingIn placeTouching
+  from-more i l =
+      let z : p .commands - i ≡ suc (p .commands - (i + 1)) = omega arith in
+      ap (λ (k : ℕ). firstCall P n i (listed (commandNumber p) k i)) z
+      ∙ ap (λ (y : ℕ). elim (ltb at (placesOf C n)) [ true ↦ some (callAt i C n at) | false ↦ firstCall P n y (listed (commandNumber p) (p .commands - (i + 1)) y) ]) (sym (add-one i))
+      ∙ ap (λ (a : ℕ). elim (ltb a (placesOf C n)) [ true ↦ some (callAt i C n a) | false ↦ later ]) (sym at-is)
+      ∙ or-picked (ltb place (placesOf C n)) (callAt i C n place) later
+    where
+      C : ModelCommand
+      C = commandNumber p i
+
+      at : ℕ
+      at = firstIn (λ q. P C (callAt i C n q)) (placesOf C n) 0
+
+      place : ℕ
+      place = firstIn (touchesAt enters m r s o C n) (placesOf C n) 0
+
+      later : Option Call
+      later = firstCall P n (i + 1) (listed (commandNumber p) (p .commands - (i + 1)) (i + 1))
+
+      at-is : place ≡ at
+      at-is = first-same (touchesAt enters m r s o C n) (λ q. P C (callAt i C n q)) (touching-is enters S m r s o i C (command-found p i l) n) (placesOf C n) 0
+
+  from-next : (i : ℕ) → (i < p .commands → found i ≡ none) → from i ≡ from (i + 1)
+  from-next i h = go (decLt i (p .commands))
+    where
+      go : Dec (i < p .commands) → from i ≡ from (i + 1)
+      go (yes l) = from-more i l ∙ or-none (found i) (from (i + 1)) (h l)
+      go (no l) = from-end i (omega arith) ∙ sym (from-end (i + 1) (omega arith))
+
+  skip : (d i : ℕ) → ((k : ℕ) → i ≤ k → k < i + d → k < p .commands → found k ≡ none) → from i ≡ from (i + d)
+  skip zero i h = let z : i ≡ i + 0 = omega arith in ap from z
+  skip (suc d) i h =
+      let z : i + 1 + d ≡ i + suc d = omega arith in
+      from-next i (h i (omega arith) (omega arith)) ∙ skip d (i + 1) (λ k a b. h k (omega arith) (omega arith)) ∙ ap from z
+
+  module _ (F : PolicyFits p) (single : SingleSteps p) (small : n ≤ names) (which : ℕ) (W : ConcernedBy p enters r which) where
+    passed : (k : ℕ) → k < p .commands → has which k ≡ false → found k ≡ none
+    unfolding concernsIn
+    passed k l e = nothing-touching enters m r s o n k (getD (p .command) k missing) (command-tried p F single n small k l (getD (p .command) k missing) refl) (sym (W .says k l) ∙ e)
+
+    -- to the next command of the mask
+    jumped : (i j : ℕ) → i ≤ names → j ≡ first (has which) i names → (j ≤ names) × (i ≤ j) × (from i ≡ from j)
+    jumped i j l e = (
+      L .high,
+      L .low,
+      (let z : i + (j - i) ≡ j = omega (arith, L .low) in
+          skip (j - i) i (λ k a b h. passed k h (L .none k a (omega (arith, L .low)))) ∙ ap from z),
+    )
+      where
+        L : Least (has which) i names j
+        L = subst (Least (has which) i names) (sym e) (least (has which) i names l)
+
+    -- no command at all
+    pub none-concerned : which ≡ 0 → firstTouching enters S m r s o n ≡ none
+    none-concerned e = sym from-start ∙ skip (p .commands) 0 (λ k a b h. passed k h (ap (λ (w : ℕ). has w k) e ∙ has-none k)) ∙ from-end (0 + p .commands) (omega arith)
+
+module _ (p : Policy) (m : Matrix) (t : Tables) (n r s o : ℕ) (enters : Bool) where
+  -- what is left to look through, from command i on, is all
+  pub record Looking (which count i : ℕ) : Type 0 where
+    pub asked : Closing p r n s o m t
+    pub by : ConcernedBy p enters r which
+    pub number : count ≡ p .commands
+    pub most : i ≤ names
+    pub rest : from p (stateOf m) n r s o enters i ≡ firstTouching enters (systemOf p) (stateOf m) r s o n
+
+  pub looking-start : Closing p r n s o m t → (which : ℕ) → ConcernedBy p enters r which → (count : ℕ) → count ≡ p .commands → (i : ℕ) → i ≡ first (has which) 0 names → Looking which count i
+  looking-start K which W count e i f =
+      let j = jumped p (stateOf m) n r s o enters (K .closable .fits) (K .closable .single) (K .name) which W 0 i (omega arith) f in
+      record { asked = K; by = W; number = e; most = j .0; rest = sym (j .2) ∙ from-start p (stateOf m) n r s o enters }
+
+  module _ (which count i : ℕ) (K : Looking which count i) where
+    pub looking-right : r < rights
+    looking-right = omega (arith, K .asked .closable .right, K .asked .closable .fits .few-rights)
+
+    pub looking-end : count ≤ i → (x : Found) → foundCall x ≡ none → foundCall x ≡ firstTouching enters (systemOf p) (stateOf m) r s o n
+    looking-end l x e = e ∙ sym (from-end p (stateOf m) n r s o enters i (omega (arith, K .number))) ∙ K .rest
+
+    module _ (l : i < count) where
+      pub looking-number : i < 32
+      looking-number = omega (arith, K .number, K .asked .closable .fits .few-commands)
+
+      pub looking-less : (i' : ℕ) → i' ≡ first (has which) (i + 1) names → count - i' < count - i
+      looking-less i' g =
+          let j = jumped p (stateOf m) n r s o enters (K .asked .closable .fits) (K .asked .closable .single) (K .asked .name) which (K .by) (i + 1) i' (omega (arith, looking-number)) g in
+          omega (arith, j .1)
+
+      module _ (c : Command) (e : c ≡ getD (p .command) i missing) where
+        pub looking-tried : Tried c n
+        looking-tried = command-tried p (K .asked .closable .fits) (K .asked .closable .single) n (K .asked .name) i (rw (K .number) at l) c e
+
+        module _ (x : Found) (d : foundCall x ≡ touchingIn enters (stateOf m) r s o n i (meaning c)) where
+          this : foundCall x ≡ found p (stateOf m) n r s o enters i
+          this = d ∙ ap (λ (w : Command). touchingIn enters (stateOf m) r s o n i (meaning w)) e
+
+          onward : from p (stateOf m) n r s o enters i ≡ orElse (foundCall x) (from p (stateOf m) n r s o enters (i + 1))
+          onward = from-more p (stateOf m) n r s o enters i (rw (K .number) at l) ∙ ap (λ (w : Option Call). orElse w (from p (stateOf m) n r s o enters (i + 1))) (sym this)
+
+          pub looking-found : x .found ≡ true → foundCall x ≡ firstTouching enters (systemOf p) (stateOf m) r s o n
+          looking-found f = or-found (x .found) (fourOf (x .rule) (x .actuals)) (from p (stateOf m) n r s o enters (i + 1)) f ∙ sym onward ∙ K .rest
+
+          pub looking-more : x .found ≡ false → (i' : ℕ) → i' ≡ first (has which) (i + 1) names → Looking which count i'
+          looking-more f i' g =
+              let j = jumped p (stateOf m) n r s o enters (K .asked .closable .fits) (K .asked .closable .single) (K .asked .name) which (K .by) (i + 1) i' (omega (arith, looking-number)) g in
+              let u : foundCall x ≡ none = rw f in
+              record {
+                asked = K .asked;
+                by = K .by;
+                number = K .number;
+                most = j .0;
+                rest = sym (j .2) ∙ sym (or-none (foundCall x) (from p (stateOf m) n r s o enters (i + 1)) u) ∙ sym onward ∙ K .rest;
+              }
+
+-- ---- one cell
+module _ (p : Policy) (m : Matrix) (t : Tables) (n r s o : ℕ) (K : Closing p r n s o m t) where
+  pub cell-right : r < rights
+  cell-right = omega (arith, K .closable .right, K .closable .fits .few-rights)
+
+  -- on the matrix without the right
+  module _ (gone : Matrix) (g : gone ≡ deleted m r s o) (without : Tables) (w : without ≡ cleared t r s o) where
+    pub closing-gone : Closing p r n s o gone without
+    closing-gone = record {
+      closable = record {
+        fits = K .closable .fits;
+        single = K .closable .single;
+        seen = gone-seen m t (K .closable .seen) r s o cell-right (K .row) (K .column) gone g without w;
+        right = K .closable .right;
+      };
+      name = K .name;
+      row = K .row;
+      column = K .column;
+    }
+
+    pub returned-gone : (x : Found) → foundCall x ≡ firstTouching true (systemOf p) (stateOf gone) r s o n → foundCall x ≡ firstTouching true (systemOf p) (takeOut (stateOf m) r s o) r s o n
+    returned-gone x e = e ∙ ap (λ (z : State). firstTouching true (systemOf p) z r s o n) (gone-state m t (K .closable .seen) r s o cell-right (K .row) (K .column) gone g)
+
+  module _ (x : Found) (u : foundCall x ≡ firstTouching false (systemOf p) (stateOf m) r s o n) where
+    pub cell-untaken : not (x .found) ≡ true → (z : Pair) → pairOf z ≡ [] → pairOf z ≡ bothAt (systemOf p) r n (stateOf m) s o
+    unfolding bothAt firstTouching
+    cell-untaken f z e =
+        let w : none ≡ foundCall x = rw (not-true (x .found) f) in
+        e ∙ ap (λ (c : Option Call). both c (firstCall (returns (systemOf p) (stateOf m) r s o) n 0 (systemOf p .commands))) (w ∙ u)
+
+    pub cell-both : (y : Found) → foundCall y ≡ firstTouching true (systemOf p) (takeOut (stateOf m) r s o) r s o n → (z : Pair) → z ≡ record { taken = x; returned = y } → pairOf z ≡ bothAt (systemOf p) r n (stateOf m) s o
+    unfolding bothAt firstTouching
+    cell-both y v z d = ap pairOf d ∙ ap₂ both u v
+
+pub no-pair-is : (x y : Found) → foundCall x ≡ none → foundCall y ≡ none → (z : Pair) → z ≡ record { taken = x; returned = y } → pairOf z ≡ []
+no-pair-is x y u v z d = ap pairOf d ∙ ap₂ both u v
+
+pub complete-is : (z : Pair) (b : Bool) → b ≡ (z .taken .found) && (z .returned .found) → b ≡ not (isEmpty (pairOf z))
+complete-is z b e = e ∙ go (z .taken .found) (z .returned .found)
+  where
+    x : Call
+    x = fourOf (z .taken .rule) (z .taken .actuals)
+
+    y : Call
+    y = fourOf (z .returned .rule) (z .returned .actuals)
+
+    go : (u v : Bool) → u && v ≡ not (isEmpty (both (pick u (some x) none) (pick v (some y) none)))
+    go true true = refl
+    go true false = refl
+    go false v = refl

@@ -1,0 +1,3 @@
+pub mod PassedBy
+pub mod ClosingCalls
+pub mod StartCells

@@ -1,0 +1,104 @@
+-- The commands that enter a right, or delete it: the others have no call for the closing search. Assumes nothing.
+use Prim.Native.Nat.{ℕ, _+_, _*_, _%_, _^_, _≤_, _<_}
+use mathlib.Core.Path.{_≡_, refl, sym, ap, ap₂, _∙_, subst}
+use mathlib.Core.Bool.{Bool, true, false, _&&_}
+use mathlib.Core.Option.{Option, none, some}
+use native.Mathlib.Omega.{arith}
+use borrow.Author.Tests.{le-ltb}
+use lib.Bits.{bitOr}
+use lib.Dec.{eqb, ltb}
+use lib.ListN.{getD}
+use Rattle.cases.specs.Cases.{pick}
+use Rattle.rights.specs.Rights.{has}
+use Rattle.protection.specs.Limits.{names, rights}
+use Rattle.protection.specs.State.{State}
+use Rattle.protection.specs.Command.{Operation as ModelOperation, Actuals, Call}
+use Rattle.protection.specs.Judge.{firstIn, placesOf, operationIn, callAt, deletesAt, entersAt}
+use Rattle.commands.specs.Contents.{missing, operationAt, modelOf, meaning}
+use Rattle.commands.specs.Fits.{Fits}
+use Rattle.commands.specs.declared.Command.{Command}
+use Rattle.commands.specs.declared.Operation.{Operation}
+use Rattle.commands.specs.declared.Operation.the-variants.{Enter, Delete, CreateSubject, CreateObject, DestroySubject, DestroyObject}
+use Rattle.execution.proofs.Calls.{fits-wider}
+use Rattle.queries.specs.Useful.{doable, namesOfPlace, touchesAt, Tried}
+use Rattle.queries.proofs.Shapes.{operation-is}
+use Rattle.queries.proofs.Closing.{none-at-all}
+use Rattle.queries.proofs.NameMasks.{Filled, filled-start, filled-more, marked-yes, marked-no}
+use Rattle.policy.specs.Fits.{PolicyFits}
+use Rattle.policy.specs.declared.Policy.{Policy}
+use Rattle.rounds.specs.Engine.{SingleSteps}
+use Rattle.closing.specs.Closing.{concernsRight, concernsIn, ConcernedBy, placeTouching, touchingIn}
+
+-- ---- for `concerns`
+pub concerns-enter : (enters : Bool) (r q x y : ℕ) (op : Operation) (b : Bool) → op ≡ Enter q x y → enters ≡ true → b ≡ eqb q r → b ≡ concernsRight enters r op
+concerns-enter enters r q x y op b f e d = d ∙ sym (ap₂ (λ (u : Bool) (w : Operation). concernsRight u r w) e f)
+
+pub concerns-delete : (enters : Bool) (r q x y : ℕ) (op : Operation) (b : Bool) → op ≡ Delete q x y → enters ≡ false → b ≡ eqb q r → b ≡ concernsRight enters r op
+concerns-delete enters r q x y op b f e d = d ∙ sym (ap₂ (λ (u : Bool) (w : Operation). concernsRight u r w) e f)
+
+-- ---- a command of a policy
+pub command-tried : (p : Policy) → PolicyFits p → SingleSteps p → (n : ℕ) → n ≤ names → (i : ℕ) → i < p .commands → (c : Command) → c ≡ getD (p .command) i missing → Tried c n
+command-tried p F single n h i l c e = record {
+  fits = subst (Fits rights) (sym e) (fits-wider (p .rights) rights (getD (p .command) i missing) (F .few-rights) (F .commands-fit i l));
+  one-step = ap (λ (d : Command). d .operations) e ∙ single .one-step i l;
+  name = h;
+}
+
+-- ---- the loop of `concerned`
+module _ (p : Policy) (enters : Bool) (r : ℕ) where
+  pub record Concerning (count mask i : ℕ) : Type 0 where
+    pub fits : PolicyFits p
+    pub number : count ≡ p .commands
+    pub within : i ≤ count
+    pub filled : Filled (concernsIn p enters r) mask i
+
+  pub concerning-start : PolicyFits p → (count : ℕ) → count ≡ p .commands → Concerning count 0 0
+  concerning-start F count e = record { fits = F; number = e; within = omega arith; filled = filled-start (concernsIn p enters r) }
+
+  pub concerning-end : (count mask i : ℕ) → Concerning count mask i → count ≤ i → ConcernedBy p enters r mask
+  concerning-end count mask i K l = record { says = λ j h. K .filled .done j (omega (arith, K .number)) }
+
+  module _ (count mask i : ℕ) (K : Concerning count mask i) (l : i < count) where
+    pub concerning-number : i < 32
+    concerning-number = omega (arith, K .number, K .fits .few-commands)
+
+    module _ (c : Command) (e : c ≡ getD (p .command) i missing) (op : Operation) (f : op ≡ operationAt c 0) (b : Bool) (d : b ≡ concernsRight enters r op) where
+      told : b ≡ concernsIn p enters r i
+      unfolding concernsIn
+      told = d ∙ ap (concernsRight enters r) (f ∙ ap (λ (w : Command). operationAt w 0) e)
+
+      more : (mask' : ℕ) → Filled (concernsIn p enters r) mask' (i + 1) → Concerning count mask' (i + 1)
+      more mask' h = record { fits = K .fits; number = K .number; within = omega arith; filled = h }
+
+      pub concerning-yes : b ≡ true → (mask' : ℕ) → mask' ≡ bitOr mask ((1 * 2 ^ i) % 2 ^ 32) → Concerning count mask' (i + 1)
+      concerning-yes t mask' z = more mask' (filled-more (concernsIn p enters r) mask i mask' b (K .filled) told (z ∙ marked-yes mask i b concerning-number t))
+
+      pub concerning-no : b ≡ false → (mask' : ℕ) → mask' ≡ mask → Concerning count mask' (i + 1)
+      concerning-no t mask' z = more mask' (filled-more (concernsIn p enters r) mask i mask' b (K .filled) told (z ∙ marked-no mask i b t))
+
+-- ---- a command that is passed by
+untouched : (b : Bool) (r s o : ℕ) (op : Operation) → concernsRight b r op ≡ false → (a : Actuals) → pick b (entersAt r s o a (modelOf op)) (deletesAt r s o a (modelOf op)) ≡ false
+untouched true r s o (Enter q x y) e a = ap (λ (u : Bool). (u && eqb (a x) s) && eqb (a y) o) e
+untouched false r s o (Enter q x y) e a = refl
+untouched true r s o (Delete q x y) e a = refl
+untouched false r s o (Delete q x y) e a = ap (λ (u : Bool). (u && eqb (a x) s) && eqb (a y) o) e
+untouched true r s o (CreateSubject x) e a = refl
+untouched false r s o (CreateSubject x) e a = refl
+untouched true r s o (CreateObject x) e a = refl
+untouched false r s o (CreateObject x) e a = refl
+untouched true r s o (DestroySubject x) e a = refl
+untouched false r s o (DestroySubject x) e a = refl
+untouched true r s o (DestroyObject x) e a = refl
+untouched false r s o (DestroyObject x) e a = refl
+
+pub nothing-touching : (b : Bool) (m : State) (r s o n i : ℕ) (c : Command) → Tried c n → concernsRight b r (operationAt c 0) ≡ false → touchingIn b m r s o n i (meaning c) ≡ none
+unfolding touchingIn placeTouching
+nothing-touching b m r s o n i c H e =
+    ap (λ (u : Bool). pick u (some (callAt i (meaning c) n (firstIn (touchesAt b m r s o (meaning c) n) (placesOf (meaning c) n) 0))) none)
+    (ap (λ (k : ℕ). ltb k (placesOf (meaning c) n)) (sym (none-at-all (touchesAt b m r s o (meaning c) n) never (placesOf (meaning c) n) (placesOf (meaning c) n) refl))
+    ∙ le-ltb (placesOf (meaning c) n) (placesOf (meaning c) n) (omega arith))
+  where
+    never : (p : ℕ) → touchesAt b m r s o (meaning c) n p ≡ false
+    never p =
+        ap (λ (w : ModelOperation). elim (pick b (entersAt r s o (namesOfPlace (meaning c) n p) w) (deletesAt r s o (namesOfPlace (meaning c) n p) w)) [ true ↦ doable (meaning c) m (namesOfPlace (meaning c) n p) | false ↦ false ]) (operation-is c n H)
+        ∙ ap (λ (u : Bool). elim u [ true ↦ doable (meaning c) m (namesOfPlace (meaning c) n p) | false ↦ false ]) (untouched b r s o (operationAt c 0) e (namesOfPlace (meaning c) n p))

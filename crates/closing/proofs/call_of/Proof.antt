@@ -1,0 +1,50 @@
+use Rattle.closing.proofs.ClosingCalls.{call-found, call-missing}
+use borrow.Author.Needs.{needs}
+use Rattle.closing.proofs.call_of.Statement.{statement}
+use Rattle.closing.proofs.call_of.Tie as tie
+use Rattle.closing.proofs.call_of.Reads as reads
+use Rattle.closing.proofs.call_of.Lts as lts
+use Rattle.closing.proofs.not_found.Reads as not-found-reads
+use Rattle.queries.proofs.actuals_at.Reads as actuals-at-reads
+use Rattle.queries.proofs.first_on_cell.Reads as first-on-cell-reads
+use Rattle.queries.proofs.places.Reads as places-reads
+
+-- src/lib.rt:121:9
+first-on-cell-requires : tie.Need-first-on-cell-requires
+first-on-cell-requires c κs = search needs
+
+-- src/lib.rt:122:13
+places-requires : tie.Need-places-requires
+places-requires c κs = search needs
+
+-- src/lib.rt:123:13
+actuals-at-requires : tie.Need-actuals-at-requires
+actuals-at-requires c κs = search needs
+
+-- src/lib.rt:126:19
+cast-t16 : tie.Need-cast-t16
+cast-t16 c = search needs
+
+-- src/lib.rt:124:9
+returns : tie.Need-returns
+returns c = search call-found
+
+-- src/lib.rt:130:5
+not-found-requires : tie.Need-not-found-requires
+not-found-requires c κs = search needs
+
+-- src/lib.rt:105:1
+returns-2 : tie.Need-returns-2
+returns-2 c = search call-missing
+
+pub call-of-spec : {M : Type 1} → statement M
+call-of-spec =
+    tie.close
+    (tie.spec
+    first-on-cell-requires
+    places-requires
+    actuals-at-requires
+    cast-t16
+    returns
+    not-found-requires
+    returns-2)
