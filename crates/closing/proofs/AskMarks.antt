@@ -1,12 +1,12 @@
 -- The loops that mark what commands ask of the cells of their own parameters. Assumes nothing.
 use Prim.Native.Nat.{ℕ, _+_, _*_, _/_, _%_, _^_, _≤_, _<_}
-use mathlib.Core.Path.{_≡_, refl, sym, ap, ap₂, _∙_, subst}
-use mathlib.Core.Bool.{Bool, true, false, not, _&&_, _||_}
+use mathlib.Core.Path.{_≡_, sym, ap, ap₂, _∙_, subst}
+use mathlib.Core.Bool.{Bool, true, false, _&&_, _||_}
 use mathlib.Core.List.{List}
 use mathlib.Core.Logic.{_⊎_, inl, inr, ⊎-elim}
 use native.Mathlib.Decide.{decLt, ℕ-discrete}
 use native.Mathlib.Omega.{arith}
-use borrow.Author.Tests.{eq-eqb, ne-eqb, eqb-true, lt-ltb, le-ltb}
+use borrow.Author.Tests.{eq-eqb, ne-eqb, lt-ltb, le-ltb}
 use lib.Bits.{bitOr}
 use lib.Dec.{T, eqb, ltb, eqb→eq}
 use lib.ListN.{length, getD, set, replicate, getD-replicate, length-replicate, length-set}
@@ -14,10 +14,10 @@ use Rattle.cases.specs.Cases.{pick}
 use Rattle.cases.proofs.Bools.{and-left, and-right, or-cases, holds, is-true}
 use Rattle.rights.specs.Rights.{has, insert}
 use Rattle.rights.proofs.Sets.{has-none}
-use Rattle.protection.specs.Limits.{names, rights, commands}
+use Rattle.protection.specs.Limits.{rights, commands}
 use Rattle.masks.specs.Told.{raised}
 use Rattle.masks.proofs.Told.{has-raised, mark-is}
-use Rattle.commands.specs.Contents.{missing, conditionOf}
+use Rattle.commands.specs.Contents.{missing}
 use Rattle.commands.specs.Fits.{Fits}
 use Rattle.commands.specs.declared.Command.{Command}
 use Rattle.execution.proofs.Calls.{fits-wider}

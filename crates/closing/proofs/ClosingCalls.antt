@@ -36,7 +36,7 @@ use Rattle.rounds.specs.Engine.{commandNumber}
 use Rattle.rounds.proofs.Asked.{command-found}
 use Rattle.rounds.proofs.Visits.{allowed-is}
 use Rattle.closing.specs.Asks.{AskedBy, LackingAt, leftIn}
-use Rattle.closing.specs.Closing.{foundCall, pairOf, ConcernedBy, Covers, touching, firstTouching, placeTouching, touchingIn, bothAt, Closable, Closing}
+use Rattle.closing.specs.Closing.{foundCall, pairOf, ConcernedBy, Covers, touching, firstTouching, placeTouching, touchingIn, bothAt, Closing}
 use Rattle.closing.specs.declared.Found.{Found}
 use Rattle.closing.specs.declared.Pair.{Pair}
 use Rattle.closing.proofs.PassedBy.{command-tried}

@@ -20,8 +20,8 @@ use Rattle.protection.specs.Limits.{names, rights}
 use Rattle.protection.specs.State.{State, subjectIn, objectIn}
 use Rattle.protection.specs.Command.{Operation as ModelOperation, Actuals}
 use Rattle.protection.specs.Execution.{takeOut, sameCell, holdAll, holds as conditionHolds}
-use Rattle.protection.specs.Judge.{operationIn, deletesAt, entersAt}
-use Rattle.matrix.specs.Bytes.{inside, rightsIn}
+use Rattle.protection.specs.Judge.{deletesAt, entersAt}
+use Rattle.matrix.specs.Bytes.{inside}
 use Rattle.matrix.specs.Matrices.{stateOf}
 use Rattle.matrix.specs.declared.Matrix.{Matrix}
 use Rattle.masks.proofs.Digits.{has-and, has-not}
@@ -30,7 +30,7 @@ use Rattle.commands.specs.Contents.{missing, conditionOf, operationAt, modelOf,
 use Rattle.commands.specs.declared.Command.{Command}
 use Rattle.commands.specs.declared.Operation.{Operation}
 use Rattle.commands.specs.declared.Operation.the-variants.{Enter, Delete, CreateSubject, CreateObject, DestroySubject, DestroyObject}
-use Rattle.queries.specs.Useful.{doable, namesOfPlace, touchesAt, Tried}
+use Rattle.queries.specs.Useful.{doable, namesOfPlace, Tried}
 use Rattle.queries.proofs.Goodness.{doable-holds, hold-each}
 use Rattle.queries.proofs.Shapes.{operation-is}
 use Rattle.policy.specs.Fits.{PolicyFits}
@@ -38,7 +38,7 @@ use Rattle.policy.specs.declared.Policy.{Policy}
 use Rattle.rounds.specs.Engine.{SingleSteps}
 use Rattle.closing.specs.Closing.{touchingIn, ConcernedBy, Covers}
 use Rattle.closing.proofs.PassedBy.{never-touching, command-tried, concerned-covers}
-use Rattle.closing.specs.Asks.{onSide, firstOf, secondOf, Asks, AskedBy, Lacks, LackingIn, LacksAt, LackingAt, leftIn}
+use Rattle.closing.specs.Asks.{onSide, firstOf, secondOf, Asks, AskedBy, LackingIn, LackingAt, leftIn}
 
 or-two : (x y : ℕ) → x < 2 → y < 2 → eqb (max x y) 1 ≡ eqb x 1 || eqb y 1
 or-two zero zero p q = refl

@@ -2,7 +2,7 @@
 use Prim.Native.Nat.{ℕ, _+_, _*_, _%_, _^_, _≤_, _<_}
 use mathlib.Core.Path.{_≡_, refl, sym, ap, ap₂, _∙_, subst}
 use mathlib.Core.Bool.{Bool, true, false, _&&_}
-use mathlib.Core.Option.{Option, none, some}
+use mathlib.Core.Option.{none, some}
 use native.Mathlib.Omega.{arith}
 use borrow.Author.Tests.{le-ltb}
 use lib.Bits.{bitOr}
@@ -13,7 +13,7 @@ use Rattle.rights.specs.Rights.{has}
 use Rattle.protection.specs.Limits.{names, rights}
 use Rattle.protection.specs.State.{State}
 use Rattle.protection.specs.Command.{Operation as ModelOperation, Command as ModelCommand, Actuals}
-use Rattle.protection.specs.Judge.{firstIn, placesOf, operationIn, callAt, deletesAt, entersAt}
+use Rattle.protection.specs.Judge.{firstIn, placesOf, callAt, deletesAt, entersAt}
 use Rattle.commands.specs.Contents.{missing, operationAt, modelOf, meaning}
 use Rattle.commands.specs.Fits.{Fits}
 use Rattle.commands.specs.declared.Command.{Command}
