@@ -25,20 +25,22 @@ use Rattle.masks.specs.First.{first}
 use Rattle.masks.specs.Told.{cleared}
 use Rattle.masks.specs.declared.Tables.{Tables}
 use Rattle.masks.proofs.First.{Least, least}
-use Rattle.commands.specs.Contents.{missing, operationAt, meaning}
+use Rattle.search.specs.Narrowing.{Says}
+use Rattle.commands.specs.Contents.{missing, meaning}
 use Rattle.commands.specs.declared.Command.{Command}
 use Rattle.queries.specs.Useful.{doable, namesOfPlace, touchesAt, Tried}
 use Rattle.queries.proofs.Picking.{first-same, gone-state, gone-seen}
 use Rattle.policy.specs.Contents.{systemOf}
-use Rattle.policy.specs.Fits.{PolicyFits}
 use Rattle.policy.specs.declared.Policy.{Policy}
-use Rattle.rounds.specs.Engine.{commandNumber, SingleSteps}
+use Rattle.rounds.specs.Engine.{commandNumber}
 use Rattle.rounds.proofs.Asked.{command-found}
 use Rattle.rounds.proofs.Visits.{allowed-is}
-use Rattle.closing.specs.Closing.{foundCall, pairOf, concernsIn, ConcernedBy, touching, firstTouching, placeTouching, touchingIn, bothAt, Closable, Closing}
+use Rattle.closing.specs.Asks.{AskedBy, LackingAt, leftIn}
+use Rattle.closing.specs.Closing.{foundCall, pairOf, ConcernedBy, Covers, touching, firstTouching, placeTouching, touchingIn, bothAt, Closing}
 use Rattle.closing.specs.declared.Found.{Found}
 use Rattle.closing.specs.declared.Pair.{Pair}
-use Rattle.closing.proofs.PassedBy.{command-tried, nothing-touching}
+use Rattle.closing.proofs.PassedBy.{command-tried}
+use Rattle.closing.proofs.Lacking.{left-covers, out-lacks}
 
 -- ---- for `call_of`
 module _ (m : State) (r s o n i : ℕ) (enters : Bool) (C : ModelCommand) (at : ℕ) (found : at ≡ firstIn (touchesAt enters m r s o C n) (placesOf C n) 0) (size : ℕ) (size-is : size ≡ placesOf C n) where
@@ -141,39 +143,35 @@ module _ (p : Policy) (m : State) (n r s o : ℕ) (enters : Bool) where
       let z : i + 1 + d ≡ i + suc d = omega arith in
       from-next i (h i (omega arith) (omega arith)) ∙ skip d (i + 1) (λ k a b. h k (omega arith) (omega arith)) ∙ ap from z
 
-  module _ (F : PolicyFits p) (single : SingleSteps p) (small : n ≤ names) (which : ℕ) (W : ConcernedBy p enters r which) where
-    passed : (k : ℕ) → k < p .commands → has which k ≡ false → found k ≡ none
-    unfolding concernsIn
-    passed k l e = nothing-touching enters m r s o n k (getD (p .command) k missing) (command-tried p F single n small k l (getD (p .command) k missing) refl) (sym (W .says k l) ∙ e)
-
+  module _ (which : ℕ) (W : Covers p enters m r s o n which) where
     -- to the next command of the mask
     jumped : (i j : ℕ) → i ≤ names → j ≡ first (has which) i names → (j ≤ names) × (i ≤ j) × (from i ≡ from j)
     jumped i j l e = (
       L .high,
       L .low,
       (let z : i + (j - i) ≡ j = omega (arith, L .low) in
-          skip (j - i) i (λ k a b h. passed k h (L .none k a (omega (arith, L .low)))) ∙ ap from z),
+          skip (j - i) i (λ k a b h. W .none-else k h (L .none k a (omega (arith, L .low)))) ∙ ap from z),
     )
       where
         L : Least (has which) i names j
         L = subst (Least (has which) i names) (sym e) (least (has which) i names l)
 
     -- no command at all
-    pub none-concerned : which ≡ 0 → firstTouching enters S m r s o n ≡ none
-    none-concerned e = sym from-start ∙ skip (p .commands) 0 (λ k a b h. passed k h (ap (λ (w : ℕ). has w k) e ∙ has-none k)) ∙ from-end (0 + p .commands) (omega arith)
+    pub none-covered : which ≡ 0 → firstTouching enters S m r s o n ≡ none
+    none-covered e = sym from-start ∙ skip (p .commands) 0 (λ k a b h. W .none-else k h (ap (λ (w : ℕ). has w k) e ∙ has-none k)) ∙ from-end (0 + p .commands) (omega arith)
 
 module _ (p : Policy) (m : Matrix) (t : Tables) (n r s o : ℕ) (enters : Bool) where
   -- what is left to look through, from command i on, is all
   pub record Looking (which count i : ℕ) : Type 0 where
     pub asked : Closing p r n s o m t
-    pub by : ConcernedBy p enters r which
+    pub by : Covers p enters (stateOf m) r s o n which
     pub number : count ≡ p .commands
     pub most : i ≤ names
     pub rest : from p (stateOf m) n r s o enters i ≡ firstTouching enters (systemOf p) (stateOf m) r s o n
 
-  pub looking-start : Closing p r n s o m t → (which : ℕ) → ConcernedBy p enters r which → (count : ℕ) → count ≡ p .commands → (i : ℕ) → i ≡ first (has which) 0 names → Looking which count i
+  pub looking-start : Closing p r n s o m t → (which : ℕ) → Covers p enters (stateOf m) r s o n which → (count : ℕ) → count ≡ p .commands → (i : ℕ) → i ≡ first (has which) 0 names → Looking which count i
   looking-start K which W count e i f =
-      let j = jumped p (stateOf m) n r s o enters (K .closable .fits) (K .closable .single) (K .name) which W 0 i (omega arith) f in
+      let j = jumped p (stateOf m) n r s o enters which W 0 i (omega arith) f in
       record { asked = K; by = W; number = e; most = j .0; rest = sym (j .2) ∙ from-start p (stateOf m) n r s o enters }
 
   module _ (which count i : ℕ) (K : Looking which count i) where
@@ -189,7 +187,7 @@ module _ (p : Policy) (m : Matrix) (t : Tables) (n r s o : ℕ) (enters : Bool) 
 
       pub looking-less : (i' : ℕ) → i' ≡ first (has which) (i + 1) names → count - i' < count - i
       looking-less i' g =
-          let j = jumped p (stateOf m) n r s o enters (K .asked .closable .fits) (K .asked .closable .single) (K .asked .name) which (K .by) (i + 1) i' (omega (arith, looking-number)) g in
+          let j = jumped p (stateOf m) n r s o enters which (K .by) (i + 1) i' (omega (arith, looking-number)) g in
           omega (arith, j .1)
 
       module _ (c : Command) (e : c ≡ getD (p .command) i missing) where
@@ -208,7 +206,7 @@ module _ (p : Policy) (m : Matrix) (t : Tables) (n r s o : ℕ) (enters : Bool) 
 
           pub looking-more : x .found ≡ false → (i' : ℕ) → i' ≡ first (has which) (i + 1) names → Looking which count i'
           looking-more f i' g =
-              let j = jumped p (stateOf m) n r s o enters (K .asked .closable .fits) (K .asked .closable .single) (K .asked .name) which (K .by) (i + 1) i' (omega (arith, looking-number)) g in
+              let j = jumped p (stateOf m) n r s o enters which (K .by) (i + 1) i' (omega (arith, looking-number)) g in
               let u : foundCall x ≡ none = rw f in
               record {
                 asked = K .asked;
@@ -217,6 +215,10 @@ module _ (p : Policy) (m : Matrix) (t : Tables) (n r s o : ℕ) (enters : Bool) 
                 most = j .0;
                 rest = sym (j .2) ∙ sym (or-none (foundCall x) (from p (stateOf m) n r s o enters (i + 1)) u) ∙ sym onward ∙ K .rest;
               }
+
+pub both-none : (x : Option Call) → both x none ≡ []
+both-none none = refl
+both-none (some x) = refl
 
 -- ---- one cell
 module _ (p : Policy) (m : Matrix) (t : Tables) (n r s o : ℕ) (K : Closing p r n s o m t) where
@@ -238,8 +240,25 @@ module _ (p : Policy) (m : Matrix) (t : Tables) (n r s o : ℕ) (K : Closing p r
       column = K .column;
     }
 
+    pub covers-gone : (which : ℕ) → Covers p true (takeOut (stateOf m) r s o) r s o n which → Covers p true (stateOf gone) r s o n which
+    covers-gone which W = subst (λ (z : State). Covers p true z r s o n which) (sym (gone-state m t (K .closable .seen) r s o cell-right (K .row) (K .column) gone g)) W
+
     pub returned-gone : (x : Found) → foundCall x ≡ firstTouching true (systemOf p) (stateOf gone) r s o n → foundCall x ≡ firstTouching true (systemOf p) (takeOut (stateOf m) r s o) r s o n
     returned-gone x e = e ∙ ap (λ (z : State). firstTouching true (systemOf p) z r s o n) (gone-state m t (K .closable .seen) r s o cell-right (K .row) (K .column) gone g)
+
+  -- the commands that may have a call at the cell
+  module _ (asks : List ℕ) (A : AskedBy p asks) (lacking : ℕ) (L : LackingAt asks (m .cells) s o lacking) (which left : ℕ) (E : Says left (leftIn which lacking)) where
+    pub covers-taken : ConcernedBy p false r which → Covers p false (stateOf m) r s o n left
+    covers-taken W = left-covers p (K .closable .fits) (K .closable .single) n (K .name) m (stateOf m) (λ u v q e. e) s o asks A lacking L false r which left W E
+
+    pub covers-returned : ConcernedBy p true r which → Covers p true (takeOut (stateOf m) r s o) r s o n left
+    covers-returned W = left-covers p (K .closable .fits) (K .closable .single) n (K .name) m (takeOut (stateOf m) r s o) (λ u v q e. out-lacks (stateOf m) r s o u v q e) s o asks A lacking L true r which left W E
+
+    pub cell-unreturned : ConcernedBy p true r which → left ≡ 0 → (z : Pair) → pairOf z ≡ [] → pairOf z ≡ bothAt (systemOf p) r n (stateOf m) s o
+    unfolding bothAt firstTouching
+    cell-unreturned W e z d = d ∙ sym (ap (both (firstCall (takes (systemOf p) (stateOf m) r s o) n 0 (systemOf p .commands)))
+        (none-covered p (takeOut (stateOf m) r s o) n r s o true left (covers-returned W) e)
+        ∙ both-none (firstCall (takes (systemOf p) (stateOf m) r s o) n 0 (systemOf p .commands)))
 
   module _ (x : Found) (u : foundCall x ≡ firstTouching false (systemOf p) (stateOf m) r s o n) where
     pub cell-untaken : not (x .found) ≡ true → (z : Pair) → pairOf z ≡ [] → pairOf z ≡ bothAt (systemOf p) r n (stateOf m) s o

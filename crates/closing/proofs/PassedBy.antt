@@ -2,7 +2,7 @@
 use Prim.Native.Nat.{ℕ, _+_, _*_, _%_, _^_, _≤_, _<_}
 use mathlib.Core.Path.{_≡_, refl, sym, ap, ap₂, _∙_, subst}
 use mathlib.Core.Bool.{Bool, true, false, _&&_}
-use mathlib.Core.Option.{Option, none, some}
+use mathlib.Core.Option.{none, some}
 use native.Mathlib.Omega.{arith}
 use borrow.Author.Tests.{le-ltb}
 use lib.Bits.{bitOr}
@@ -12,8 +12,8 @@ use Rattle.cases.specs.Cases.{pick}
 use Rattle.rights.specs.Rights.{has}
 use Rattle.protection.specs.Limits.{names, rights}
 use Rattle.protection.specs.State.{State}
-use Rattle.protection.specs.Command.{Operation as ModelOperation, Actuals, Call}
-use Rattle.protection.specs.Judge.{firstIn, placesOf, operationIn, callAt, deletesAt, entersAt}
+use Rattle.protection.specs.Command.{Operation as ModelOperation, Command as ModelCommand, Actuals}
+use Rattle.protection.specs.Judge.{firstIn, placesOf, callAt, deletesAt, entersAt}
 use Rattle.commands.specs.Contents.{missing, operationAt, modelOf, meaning}
 use Rattle.commands.specs.Fits.{Fits}
 use Rattle.commands.specs.declared.Command.{Command}
@@ -27,7 +27,7 @@ use Rattle.queries.proofs.NameMasks.{Filled, filled-start, filled-more, marked-
 use Rattle.policy.specs.Fits.{PolicyFits}
 use Rattle.policy.specs.declared.Policy.{Policy}
 use Rattle.rounds.specs.Engine.{SingleSteps}
-use Rattle.closing.specs.Closing.{concernsRight, concernsIn, ConcernedBy, placeTouching, touchingIn}
+use Rattle.closing.specs.Closing.{concernsRight, concernsIn, ConcernedBy, placeTouching, touchingIn, Covers}
 
 -- ---- for `concerns`
 pub concerns-enter : (enters : Bool) (r q x y : ℕ) (op : Operation) (b : Bool) → op ≡ Enter q x y → enters ≡ true → b ≡ eqb q r → b ≡ concernsRight enters r op
@@ -91,14 +91,22 @@ untouched false r s o (DestroySubject x) e a = refl
 untouched true r s o (DestroyObject x) e a = refl
 untouched false r s o (DestroyObject x) e a = refl
 
-pub nothing-touching : (b : Bool) (m : State) (r s o n i : ℕ) (c : Command) → Tried c n → concernsRight b r (operationAt c 0) ≡ false → touchingIn b m r s o n i (meaning c) ≡ none
+-- where no place qualifies, there is no call
+pub never-touching : (b : Bool) (m : State) (r s o n i : ℕ) (C : ModelCommand) → ((p : ℕ) → touchesAt b m r s o C n p ≡ false) → touchingIn b m r s o n i C ≡ none
 unfolding touchingIn placeTouching
-nothing-touching b m r s o n i c H e =
-    ap (λ (u : Bool). pick u (some (callAt i (meaning c) n (firstIn (touchesAt b m r s o (meaning c) n) (placesOf (meaning c) n) 0))) none)
-    (ap (λ (k : ℕ). ltb k (placesOf (meaning c) n)) (sym (none-at-all (touchesAt b m r s o (meaning c) n) never (placesOf (meaning c) n) (placesOf (meaning c) n) refl))
-    ∙ le-ltb (placesOf (meaning c) n) (placesOf (meaning c) n) (omega arith))
-  where
-    never : (p : ℕ) → touchesAt b m r s o (meaning c) n p ≡ false
-    never p =
-        ap (λ (w : ModelOperation). elim (pick b (entersAt r s o (namesOfPlace (meaning c) n p) w) (deletesAt r s o (namesOfPlace (meaning c) n p) w)) [ true ↦ doable (meaning c) m (namesOfPlace (meaning c) n p) | false ↦ false ]) (operation-is c n H)
-        ∙ ap (λ (u : Bool). elim u [ true ↦ doable (meaning c) m (namesOfPlace (meaning c) n p) | false ↦ false ]) (untouched b r s o (operationAt c 0) e (namesOfPlace (meaning c) n p))
+never-touching b m r s o n i C never =
+    ap (λ (u : Bool). pick u (some (callAt i C n (firstIn (touchesAt b m r s o C n) (placesOf C n) 0))) none)
+    (ap (λ (k : ℕ). ltb k (placesOf C n)) (sym (none-at-all (touchesAt b m r s o C n) never (placesOf C n) (placesOf C n) refl))
+    ∙ le-ltb (placesOf C n) (placesOf C n) (omega arith))
+
+pub nothing-touching : (b : Bool) (m : State) (r s o n i : ℕ) (c : Command) → Tried c n → concernsRight b r (operationAt c 0) ≡ false → touchingIn b m r s o n i (meaning c) ≡ none
+nothing-touching b m r s o n i c H e = never-touching b m r s o n i (meaning c) (λ p.
+    ap (λ (w : ModelOperation). elim (pick b (entersAt r s o (namesOfPlace (meaning c) n p) w) (deletesAt r s o (namesOfPlace (meaning c) n p) w)) [ true ↦ doable (meaning c) m (namesOfPlace (meaning c) n p) | false ↦ false ]) (operation-is c n H)
+    ∙ ap (λ (u : Bool). elim u [ true ↦ doable (meaning c) m (namesOfPlace (meaning c) n p) | false ↦ false ]) (untouched b r s o (operationAt c 0) e (namesOfPlace (meaning c) n p)))
+
+pub concerned-covers : (p : Policy) → PolicyFits p → SingleSteps p → (b : Bool) (m : State) (r s o n : ℕ) → n ≤ names → (which : ℕ) → ConcernedBy p b r which → Covers p b m r s o n which
+unfolding concernsIn
+concerned-covers p F single b m r s o n small which W = record {
+  none-else = λ (i : ℕ) (l : i < p .commands) (e : has which i ≡ false).
+      nothing-touching b m r s o n i (getD (p .command) i missing) (command-tried p F single n small i l (getD (p .command) i missing) refl) (sym (W .says i l) ∙ e);
+}

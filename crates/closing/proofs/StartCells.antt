@@ -1,9 +1,9 @@
 -- The closing search over the start cells. Assumes nothing.
 use Prim.Native.Nat.{ℕ, _+_, _*_, _-_, _/_, _%_, _≤_, _<_}
-use mathlib.Core.Path.{_≡_, refl, sym, ap, ap₂, _∙_, subst}
+use mathlib.Core.Path.{_≡_, refl, sym, ap, _∙_}
 use mathlib.Core.Bool.{Bool, true, false, not}
 use mathlib.Core.List.{List, []}
-use mathlib.Core.Option.{Option, none, some}
+use mathlib.Core.Option.{Option, none}
 use native.Mathlib.Omega.{arith}
 use borrow.Author.Tests.{lt-ltb, le-ltb}
 use lib.Dec.{T, ltb}
@@ -20,7 +20,6 @@ use Rattle.matrix.specs.Canonical.{Canonical}
 use Rattle.matrix.specs.Matrices.{stateOf}
 use Rattle.matrix.specs.declared.Matrix.{Matrix}
 use Rattle.masks.specs.declared.Tables.{Tables}
-use Rattle.queries.specs.Sought.{Seen}
 use Rattle.queries.proofs.Picking.{none-from}
 use Rattle.policy.specs.Contents.{systemOf}
 use Rattle.policy.specs.Fits.{PolicyFits}
@@ -28,9 +27,11 @@ use Rattle.policy.specs.declared.Policy.{Policy}
 use Rattle.rounds.specs.Engine.{SingleSteps}
 use Rattle.rounds.proofs.Firsts.{first-here, first-next, first-end}
 use Rattle.rounds.proofs.Coming.{lowest-small, lowest-kinds}
+use Rattle.closing.specs.Asks.{AskedBy}
 use Rattle.closing.specs.Closing.{pairOf, ConcernedBy, firstTouching, bothAt, Closable, Closing}
 use Rattle.closing.specs.declared.Pair.{Pair}
-use Rattle.closing.proofs.ClosingCalls.{none-concerned}
+use Rattle.closing.proofs.ClosingCalls.{none-covered, both-none}
+use Rattle.closing.proofs.PassedBy.{concerned-covers}
 
 -- in cells as an accepted file has them, the byte tells whether the right is there: a cell without row or column is 0
 held-is : (g : ℕ) (ks cs : List ℕ) → Canonical g ks cs → (s o q : ℕ) → s < names → o < names → rightsIn ks cs s o q ≡ has (getD cs (names * s + o) 0) q
@@ -76,19 +77,20 @@ module _ (p : Policy) (m : Matrix) (t : Tables) (r : ℕ) where
   ]) e
 
   -- ---- the loop
-  module _ (taking returning : ℕ) (start : Matrix) where
+  module _ (taking returning : ℕ) (asks : List ℕ) (start : Matrix) where
     -- what is left to look through, from cell c on, is all
     pub record Cells (n c : ℕ) : Type 0 where
       pub asked : Closable p r m t
       pub start-is : start ≡ p .matrix
       pub takes-by : ConcernedBy p false r taking
       pub returns-by : ConcernedBy p true r returning
+      pub asked-by : AskedBy p asks
       pub name : n ≡ lowestAbsent (stateOf m)
       pub within : c ≤ 1024
       pub rest : firstIn hasPair (1024 - c) c ≡ firstPair
 
-    pub cells-start : Closable p r m t → start ≡ p .matrix → ConcernedBy p false r taking → ConcernedBy p true r returning → (n : ℕ) → n ≡ lowestAbsent (view (m .kinds) []) → Cells n 0
-    cells-start K d x y n e = record { asked = K; start-is = d; takes-by = x; returns-by = y; name = e ∙ lowest-kinds (m .kinds) (m .cells); within = omega arith; rest = refl }
+    pub cells-start : Closable p r m t → start ≡ p .matrix → ConcernedBy p false r taking → ConcernedBy p true r returning → AskedBy p asks → (n : ℕ) → n ≡ lowestAbsent (view (m .kinds) []) → Cells n 0
+    cells-start K d x y A n e = record { asked = K; start-is = d; takes-by = x; returns-by = y; asked-by = A; name = e ∙ lowest-kinds (m .kinds) (m .cells); within = omega arith; rest = refl }
 
     module _ (n c : ℕ) (K : Cells n c) where
       pub cells-end : 1024 ≤ c → (z : Pair) → pairOf z ≡ [] → pairOf z ≡ closing S r m₀ (stateOf m)
@@ -102,7 +104,7 @@ module _ (p : Policy) (m : Matrix) (t : Tables) (r : ℕ) where
         cells-asked = record { closable = K .asked; name = rw (K .name) (lowest-small (stateOf m)); row = omega arith; column = omega arith }
 
         onward : hasPair c ≡ false → Cells n (c + 1)
-        onward h = record { asked = K .asked; start-is = K .start-is; takes-by = K .takes-by; returns-by = K .returns-by; name = K .name; within = omega arith; rest = first-next hasPair 1024 firstPair c h l (K .rest) }
+        onward h = record { asked = K .asked; start-is = K .start-is; takes-by = K .takes-by; returns-by = K .returns-by; asked-by = K .asked-by; name = K .name; within = omega arith; rest = first-next hasPair 1024 firstPair c h l (K .rest) }
 
         module _ (b : Bool) (d : b ≡ has (getD (start .cells) c 0) r) where
           byte : b ≡ has (getD (p .matrix .cells) c 0) r
@@ -138,17 +140,10 @@ module _ (p : Policy) (m : Matrix) (t : Tables) (r : ℕ) where
     pub none-taken : (which : ℕ) → ConcernedBy p false r which → which ≡ 0 → (z : Pair) → pairOf z ≡ [] → pairOf z ≡ closing S r m₀ (stateOf m)
     unfolding bothAt firstTouching
     none-taken which W e z d = d ∙ no-pairs (λ s o. ap (λ (x : Option Call). both x (firstCall (returns S (stateOf m) r s o) (lowestAbsent (stateOf m)) 0 (S .commands)))
-        (none-concerned p (stateOf m) (lowestAbsent (stateOf m)) r s o false F single (lowest-small (stateOf m)) which W e))
+        (none-covered p (stateOf m) (lowestAbsent (stateOf m)) r s o false which (concerned-covers p F single false (stateOf m) r s o (lowestAbsent (stateOf m)) (lowest-small (stateOf m)) which W) e))
 
     pub none-returned : (which : ℕ) → ConcernedBy p true r which → which ≡ 0 → (z : Pair) → pairOf z ≡ [] → pairOf z ≡ closing S r m₀ (stateOf m)
     unfolding bothAt firstTouching
     none-returned which W e z d = d ∙ no-pairs (λ s o. ap (both (firstCall (takes S (stateOf m) r s o) (lowestAbsent (stateOf m)) 0 (S .commands)))
-        (none-concerned p (takeOut (stateOf m) r s o) (lowestAbsent (stateOf m)) r s o true F single (lowest-small (stateOf m)) which W e)
-        ∙ nothing (firstCall (takes S (stateOf m) r s o) (lowestAbsent (stateOf m)) 0 (S .commands)))
-      where
-        nothing : (x : Option Call) → both x none ≡ []
-        nothing none = refl
-        nothing (some x) = refl
-
-pub closable : (p : Policy) (m : Matrix) (t : Tables) (r : ℕ) → PolicyFits p → Seen m t → r < p .rights → SingleSteps p → Closable p r m t
-closable p m t r F K l s = record { fits = F; single = s; seen = K; right = l }
+        (none-covered p (takeOut (stateOf m) r s o) (lowestAbsent (stateOf m)) r s o true which (concerned-covers p F single true (takeOut (stateOf m) r s o) r s o (lowestAbsent (stateOf m)) (lowest-small (stateOf m)) which W) e)
+        ∙ both-none (firstCall (takes S (stateOf m) r s o) (lowestAbsent (stateOf m)) 0 (S .commands)))

@@ -14,7 +14,7 @@ use Rattle.protection.specs.Command.{Command, System, Call, actuals}
 use Rattle.protection.specs.Judge.{firstIn, placesOf, operationIn, fourOf, callAt, allowed, deletesAt, entersAt, takes, returns, firstCall, both}
 use Rattle.matrix.specs.declared.Matrix.{Matrix}
 use Rattle.masks.specs.declared.Tables.{Tables}
-use Rattle.commands.specs.Contents.{missing, operationAt}
+use Rattle.commands.specs.Contents.{missing, operationAt, meaning}
 use Rattle.commands.specs.declared.Operation.{Operation}
 use Rattle.commands.specs.declared.Operation.the-variants.{Enter, Delete, CreateSubject, CreateObject, DestroySubject, DestroyObject}
 use Rattle.queries.specs.Useful.{touchesAt}
@@ -66,6 +66,10 @@ placeTouching enters m r s o n C = firstIn (touchesAt enters m r s o C n) (place
 -- the first call of command C, number i
 unfoldable pub touchingIn : Bool → State → ℕ → ℕ → ℕ → ℕ → ℕ → Command → Option Call
 touchingIn enters m r s o n i C = pick (ltb (placeTouching enters m r s o n C) (placesOf C n)) (some (callAt i C n (placeTouching enters m r s o n C))) none
+
+-- no command outside the mask has such a call
+pub record Covers (p : Policy) (enters : Bool) (m : State) (r s o n mask : ℕ) : Type 0 where
+  pub none-else : (i : ℕ) → i < p .commands → has mask i ≡ false → touchingIn enters m r s o n i (meaning (getD (p .command) i missing)) ≡ none
 
 -- the two steps for the cell, where name n is lowest absent; nothing, if one of them is not found
 unfoldable pub bothAt : System → ℕ → ℕ → State → ℕ → ℕ → List Call

@@ -4,39 +4,44 @@ use Rattle.closing.proofs.closing_pair.Statement.{statement}
 use Rattle.closing.proofs.closing_pair.Tie as tie
 use Rattle.closing.proofs.closing_pair.Reads as reads
 use Rattle.closing.proofs.closing_pair.Lts as lts
+use Rattle.closing.proofs.asked.asked_by.Reads as asked-by-reads
 use Rattle.closing.proofs.concerned.Reads as concerned-reads
 use Rattle.closing.proofs.first_pair.Reads as first-pair-reads
 use Rattle.closing.proofs.no_pair.Reads as no-pair-reads
 
--- src/lib.rt:279:9
+-- src/lib.rt:292:9
 concerned-requires : tie.Need-concerned-requires
 concerned-requires c κs = search needs
 
--- src/lib.rt:281:9
+-- src/lib.rt:294:9
 no-pair-requires : tie.Need-no-pair-requires
 no-pair-requires c κs = search needs
 
--- src/lib.rt:281:9
+-- src/lib.rt:294:9
 returns : tie.Need-returns
 returns c = search none-taken
 
--- src/lib.rt:283:9
+-- src/lib.rt:296:9
 concerned-requires-2 : tie.Need-concerned-requires-2
 concerned-requires-2 c κs = search needs
 
--- src/lib.rt:285:9
+-- src/lib.rt:298:9
 no-pair-requires-2 : tie.Need-no-pair-requires-2
 no-pair-requires-2 c κs = search needs
 
--- src/lib.rt:285:9
+-- src/lib.rt:298:9
 returns-2 : tie.Need-returns-2
 returns-2 c = search none-returned
 
--- src/lib.rt:287:5
+-- src/lib.rt:300:16
+asked-by-requires : tie.Need-asked-by-requires
+asked-by-requires c κs = search needs
+
+-- src/lib.rt:301:5
 first-pair-requires : tie.Need-first-pair-requires
 first-pair-requires c κs = search needs
 
--- src/lib.rt:268:1
+-- src/lib.rt:281:1
 returns-3 : tie.Need-returns-3
 returns-3 c = search needs
 
@@ -50,5 +55,6 @@ closing-pair-spec =
     concerned-requires-2
     no-pair-requires-2
     returns-2
+    asked-by-requires
     first-pair-requires
     returns-3)

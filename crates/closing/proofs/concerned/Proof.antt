@@ -1,4 +1,4 @@
-use Rattle.closing.proofs.PassedBy.{Concerning, concerning-start, concerning-end, concerning-number, concerning-yes, concerning-no}
+use Rattle.closing.proofs.PassedBy.{Concerning, concerning-start, concerning-end, concerning-yes, concerning-no}
 use mathlib.Core.Logic.{⊎-elim}
 use Prim.Native.Nat.{_-_}
 use borrow.Author.Needs.{needs}

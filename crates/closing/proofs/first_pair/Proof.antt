@@ -15,56 +15,56 @@ use Rattle.rights.proofs.holds.Reads as holds-reads
 use Rattle.rounds.proofs.lowest_absent.Reads as lowest-absent-reads
 
 abbrev Inv-loop : tie.InvT-loop
-Inv-loop p taking returning kinds cells row col right n start cell₀ cell = Cells p (matrixOf kinds cells) (tablesOf row col) right taking returning start n cell
+Inv-loop p taking returning asks kinds cells row col right n start cell₀ cell = Cells p (matrixOf kinds cells) (tablesOf row col) right taking returning asks start n cell
 
 abbrev μ-loop : tie.MeasureT-loop
-μ-loop p taking returning kinds cells row col right n start cell₀ cell = 1024 - cell
+μ-loop p taking returning asks kinds cells row col right n start cell₀ cell = 1024 - cell
 
--- src/lib.rt:252:9
+-- src/lib.rt:263:9
 lowest-absent-requires : tie.Need-lowest-absent-requires Inv-loop μ-loop
 lowest-absent-requires c κs = search needs
 
--- src/lib.rt:254:5
+-- src/lib.rt:265:5
 loop-holds : tie.Need-loop-holds Inv-loop μ-loop
 loop-holds c = search cells-start
 
--- src/lib.rt:255:26
+-- src/lib.rt:266:26
 element-copy-out-holds : tie.Need-element-copy-out-holds Inv-loop μ-loop
 element-copy-out-holds c = search needs
 
--- src/lib.rt:255:12
+-- src/lib.rt:266:12
 holds-requires : tie.Need-holds-requires Inv-loop μ-loop
 holds-requires c κs = search cells-right
 
--- src/lib.rt:258:17
+-- src/lib.rt:269:17
 pair-at-requires : tie.Need-pair-at-requires Inv-loop μ-loop
-pair-at-requires c κs = (search cells-asked, search needs, search needs)
+pair-at-requires c κs = (search cells-asked, search needs, search needs, search needs)
 
--- src/lib.rt:259:16
+-- src/lib.rt:272:16
 complete-requires : tie.Need-complete-requires Inv-loop μ-loop
 complete-requires c κs = search needs
 
--- src/lib.rt:260:17
+-- src/lib.rt:273:17
 returns : tie.Need-returns Inv-loop μ-loop
 returns c = search cells-found
 
--- src/lib.rt:254:9
+-- src/lib.rt:265:9
 add-cell : tie.Need-add-cell Inv-loop μ-loop
 add-cell c = omega arith
 
--- src/lib.rt:254:5
+-- src/lib.rt:265:5
 loop-less : tie.Need-loop-less Inv-loop μ-loop
 loop-less c = omega arith
 
--- src/lib.rt:254:5
+-- src/lib.rt:265:5
 loop-again : tie.Need-loop-again Inv-loop μ-loop
 loop-again c = ⊎-elim (λ w. search cells-next) (λ w. search cells-lacks) (c .if1 .came)
 
--- src/lib.rt:264:5
+-- src/lib.rt:277:5
 no-pair-requires : tie.Need-no-pair-requires Inv-loop μ-loop
 no-pair-requires c κs = search needs
 
--- src/lib.rt:239:1
+-- src/lib.rt:249:1
 returns-2 : tie.Need-returns-2 Inv-loop μ-loop
 returns-2 c = search cells-end
 

@@ -1,4 +1,4 @@
-use Rattle.closing.proofs.ClosingCalls.{closing-gone, returned-gone}
+use Rattle.closing.proofs.ClosingCalls.{closing-gone, covers-gone, returned-gone}
 use borrow.Author.Needs.{needs}
 use Rattle.closing.proofs.first_return.Statement.{statement}
 use Rattle.closing.proofs.first_return.Tie as tie
@@ -18,7 +18,7 @@ deleted-requires c κs = search needs
 
 -- src/lib.rt:189:5
 first-call-requires : tie.Need-first-call-requires
-first-call-requires c κs = (search closing-gone, search needs)
+first-call-requires c κs = (search closing-gone, search covers-gone)
 
 -- src/lib.rt:164:1
 returns : tie.Need-returns

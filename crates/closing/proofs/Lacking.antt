@@ -1,0 +1,203 @@
+-- A command that asks in a cell of its operation's own names for a right that the cell lacks has no call there. Assumes nothing.
+use Prim.Native.Nat.{ℕ, zero, suc, _+_, _-_, _*_, _/_, _%_, _^_, _≤_, _<_, max}
+use mathlib.Core.Path.{_≡_, refl, sym, ap, ap₂, _∙_, subst}
+use mathlib.Core.Bool.{Bool, true, false, not, _&&_, _||_}
+use mathlib.Core.List.{List}
+use mathlib.Core.Logic.{_⊎_, inl, inr, ⊎-elim}
+use mathlib.Core.Option.{none}
+use native.Mathlib.Omega.{arith}
+use borrow.Author.Tests.{not-true}
+use lib.Bits.{bitOr, bitAnd}
+use lib.Dec.{T, eqb, eqb→eq}
+use lib.ListN.{getD}
+use Rattle.cases.specs.Cases.{pick, each}
+use Rattle.cases.proofs.Bools.{and-left, and-right, or-cases, holds, is-true, is-false}
+use Rattle.cases.proofs.Loops.{each-at}
+use Rattle.rights.specs.Rights.{bit, has}
+use Rattle.rights.proofs.Bits.{bit-lt, bit-or}
+use Rattle.rights.proofs.Sets.{has-none}
+use Rattle.protection.specs.Limits.{names, rights}
+use Rattle.protection.specs.State.{State, subjectIn, objectIn}
+use Rattle.protection.specs.Command.{Operation as ModelOperation, Actuals}
+use Rattle.protection.specs.Execution.{takeOut, sameCell, holdAll, holds as conditionHolds}
+use Rattle.protection.specs.Judge.{deletesAt, entersAt}
+use Rattle.matrix.specs.Bytes.{inside}
+use Rattle.matrix.specs.Matrices.{stateOf}
+use Rattle.matrix.specs.declared.Matrix.{Matrix}
+use Rattle.masks.proofs.Digits.{has-and, has-not}
+use Rattle.search.specs.Narrowing.{Says}
+use Rattle.commands.specs.Contents.{missing, conditionOf, operationAt, modelOf, meaning}
+use Rattle.commands.specs.declared.Command.{Command}
+use Rattle.commands.specs.declared.Operation.{Operation}
+use Rattle.commands.specs.declared.Operation.the-variants.{Enter, Delete, CreateSubject, CreateObject, DestroySubject, DestroyObject}
+use Rattle.queries.specs.Useful.{doable, namesOfPlace, Tried}
+use Rattle.queries.proofs.Goodness.{doable-holds, hold-each}
+use Rattle.queries.proofs.Shapes.{operation-is}
+use Rattle.policy.specs.Fits.{PolicyFits}
+use Rattle.policy.specs.declared.Policy.{Policy}
+use Rattle.rounds.specs.Engine.{SingleSteps}
+use Rattle.closing.specs.Closing.{touchingIn, ConcernedBy, Covers}
+use Rattle.closing.proofs.PassedBy.{never-touching, command-tried, concerned-covers}
+use Rattle.closing.specs.Asks.{onSide, firstOf, secondOf, Asks, AskedBy, LackingIn, LackingAt, leftIn}
+
+or-two : (x y : ℕ) → x < 2 → y < 2 → eqb (max x y) 1 ≡ eqb x 1 || eqb y 1
+or-two zero zero p q = refl
+or-two zero (suc zero) p q = refl
+or-two (suc zero) zero p q = refl
+or-two (suc zero) (suc zero) p q = refl
+or-two zero (suc (suc y)) p q = absurd (omega arith)
+or-two (suc zero) (suc (suc y)) p q = absurd (omega arith)
+or-two (suc (suc x)) y p q = absurd (omega arith)
+
+has-or : (a b j : ℕ) → has (bitOr a b) j ≡ has a j || has b j
+has-or a b j = rw (bit-or a b j) (or-two (bit a j) (bit b j) (bit-lt a j) (bit-lt b j))
+
+or-has : (a b j : ℕ) → has (bitOr a b) j ≡ true → (has a j ≡ true) ⊎ (has b j ≡ true)
+or-has a b j t =
+    ⊎-elim (λ (u : T (has a j)). inl (is-true (has a j) u)) (λ (u : T (has b j)). inr (is-true (has b j) u))
+    (or-cases (has a j) (has b j) (holds (has a j || has b j) (sym (has-or a b j) ∙ t)))
+
+clash : (b : Bool) → b ≡ false → b ≡ true → ⊥
+clash b x y = let z : _≡_ {A = Bool} true false = cc in let w : _≡_ {A = ℕ} 0 1 = cc in omega arith
+
+-- ---- the loop of `lacking_in`
+module _ (asks : List ℕ) (k set : ℕ) where
+  pub lacking-start : LackingIn asks k set 0
+  lacking-start = record { says = λ i t. absurd (clash (has 0 i) (has-none i) t) }
+
+  module _ (mask q : ℕ) (K : LackingIn asks k set mask) (l : q < 8) (b : Bool) (d : b ≡ has set q) where
+    pub lacking-more : not b ≡ true → (new : ℕ) → new ≡ bitOr mask (getD asks (8 * k + q) 0) → LackingIn asks k set new
+    lacking-more e new f = record {
+      says = λ (i : ℕ) (t : has new i ≡ true). ⊎-elim (K .says i)
+          (λ (u : has (getD asks (8 * k + q) 0) i ≡ true). record { right = q; small = l; lacks = sym d ∙ not-true b e; asked = u })
+          (or-has mask (getD asks (8 * k + q) 0) i (ap (λ (w : ℕ). has w i) (sym f) ∙ t));
+    }
+
+    pub lacking-same : not b ≡ false → (new : ℕ) → new ≡ mask → LackingIn asks k set new
+    lacking-same e new f = subst (LackingIn asks k set) (sym f) K
+
+-- ---- the four cells
+pub lacking-four : (asks cells : List ℕ) (s o a b c d : ℕ) → LackingIn asks 0 (getD cells (32 * s + s) 0) a → LackingIn asks 1 (getD cells (32 * s + o) 0) b
+    → LackingIn asks 2 (getD cells (32 * o + s) 0) c → LackingIn asks 3 (getD cells (32 * o + o) 0) d → LackingAt asks cells s o (bitOr (bitOr a b) (bitOr c d))
+lacking-four asks cells s o a b c d A B C D = record {
+  says = λ (i : ℕ) (t : has (bitOr (bitOr a b) (bitOr c d)) i ≡ true).
+      ⊎-elim
+      (λ (u : has (bitOr a b) i ≡ true). ⊎-elim (λ (v : has a i ≡ true). record { cell = 0; few = omega arith; lacks = A .says i v }) (λ (v : has b i ≡ true). record { cell = 1; few = omega arith; lacks = B .says i v }) (or-has a b i u))
+      (λ (u : has (bitOr c d) i ≡ true). ⊎-elim (λ (v : has c i ≡ true). record { cell = 2; few = omega arith; lacks = C .says i v }) (λ (v : has d i ≡ true). record { cell = 3; few = omega arith; lacks = D .says i v }) (or-has c d i u))
+      (or-has (bitOr a b) (bitOr c d) i t);
+}
+
+pub left-says : (which lacking : ℕ) → lacking < 2 ^ 32 → Says (bitAnd which ((2 ^ 32 - 1) - lacking)) (leftIn which lacking)
+unfolding leftIn
+left-says which lacking l = record { says = λ n h. has-and which ((2 ^ 32 - 1) - lacking) n ∙ ap (λ (b : Bool). has which n && b) (has-not 32 lacking n l h) }
+
+-- ---- what lacks a right stays without it
+out-false : (b : Bool) → b && false ≡ false
+out-false true = refl
+out-false false = refl
+
+pub out-lacks : (m : State) (r s o u v q : ℕ) → m .cell u v q ≡ false → takeOut m r s o .cell u v q ≡ false
+out-lacks m r s o u v q e = ap (λ (b : Bool). not (sameCell u v s o && eqb q r) && b) e ∙ out-false (not (sameCell u v s o && eqb q r))
+
+cell-lacks : (m : Matrix) (u v q : ℕ) → has (getD (m .cells) (names * u + v) 0) q ≡ false → stateOf m .cell u v q ≡ false
+cell-lacks m u v q e = go (inside (m .kinds) u v)
+  where
+    go : (b : Bool) → _≡_ {A = Bool} (elim b [ true ↦ has (getD (m .cells) (names * u + v) 0) q | false ↦ false ]) false
+    go true = e
+    go false = refl
+
+-- ---- one command
+on-sides : (f : ℕ → ℕ) (a x y : ℕ) → f (onSide a x y) ≡ onSide a (f x) (f y)
+on-sides f a x y = go (eqb a 0)
+  where
+    go : (b : Bool) → f (pick b x y) ≡ pick b (f x) (f y)
+    go true = refl
+    go false = refl
+
+-- with an asked right missing the command cannot be carried out
+unheld : (c : Command) (m : State) (a : Actuals) (k q : ℕ) → Asks c k q
+    → m .cell (onSide (k / 2) (a (firstOf c)) (a (secondOf c))) (onSide (k % 2) (a (firstOf c)) (a (secondOf c))) q ≡ false → doable (meaning c) m a ≡ false
+unheld c m a k q A e = is-false (doable (meaning c) m a) (λ t.
+    let j = A .at in
+    let all : each (λ i. conditionHolds m a (conditionOf c i)) (c .conditions) 0 ≡ true =
+    sym (hold-each m a (conditionOf c) (c .conditions) 0) ∙ is-true (holdAll m a (meaning c .conditions)) (doable-holds (meaning c) m a t) in
+    let h : conditionHolds m a (conditionOf c j) ≡ true = each-at (λ i. conditionHolds m a (conditionOf c i)) (c .conditions) 0 all j (omega arith) (omega (arith, A .inside)) in
+    let held : T (m .cell (a (conditionOf c j .subject)) (a (conditionOf c j .object)) (conditionOf c j .right)) =
+    and-right (subjectIn m (a (conditionOf c j .subject)) && objectIn m (a (conditionOf c j .object))) (m .cell (a (conditionOf c j .subject)) (a (conditionOf c j .object)) (conditionOf c j .right)) (holds (conditionHolds m a (conditionOf c j)) h) in
+    let gone : m .cell (a (conditionOf c j .subject)) (a (conditionOf c j .object)) (conditionOf c j .right) ≡ false =
+    ap₂ (λ (u v : ℕ). m .cell (a u) (a v) (conditionOf c j .right)) (A .subject-is) (A .object-is)
+    ∙ ap (λ (w : ℕ). m .cell (a (onSide (k / 2) (firstOf c) (secondOf c))) (a (onSide (k % 2) (firstOf c) (secondOf c))) w) (A .right-is)
+    ∙ ap₂ (λ (u v : ℕ). m .cell u v q) (on-sides a (k / 2) (firstOf c) (secondOf c)) (on-sides a (k % 2) (firstOf c) (secondOf c)) ∙ e in
+    subst T gone held)
+
+-- on the cell (s, o) its operation's parameters have these names
+on-cell : (b : Bool) (r s o : ℕ) (c : Command) (a : Actuals) → T (pick b (entersAt r s o a (modelOf (operationAt c 0))) (deletesAt r s o a (modelOf (operationAt c 0)))) → (a (firstOf c) ≡ s) × (a (secondOf c) ≡ o)
+on-cell b r s o c a = go b (eqb (getD (c .operation) 0 0) 1) (eqb (getD (c .operation) 0 0) 2) (eqb (getD (c .operation) 0 0) 3) (eqb (getD (c .operation) 0 0) 4) (eqb (getD (c .operation) 0 0) 5)
+  where
+    q : ℕ
+    q = getD (c .operation) 1 0
+
+    x : ℕ
+    x = firstOf c
+
+    y : ℕ
+    y = secondOf c
+
+    op : (b1 b2 b3 b4 b5 : Bool) → Operation
+    op b1 b2 b3 b4 b5 = pick b1 (Enter q x y) (pick b2 (Delete q x y) (pick b3 (CreateSubject x) (pick b4 (CreateObject x) (pick b5 (DestroySubject x) (DestroyObject x)))))
+
+    named : T ((eqb q r && eqb (a x) s) && eqb (a y) o) → (a x ≡ s) × (a y ≡ o)
+    named t =
+        (eqb→eq (a x) s (and-right (eqb q r) (eqb (a x) s) (and-left (eqb q r && eqb (a x) s) (eqb (a y) o) t)), eqb→eq (a y) o (and-right (eqb q r && eqb (a x) s) (eqb (a y) o) t))
+
+    go : (b b1 b2 b3 b4 b5 : Bool) → T (pick b (entersAt r s o a (modelOf (op b1 b2 b3 b4 b5))) (deletesAt r s o a (modelOf (op b1 b2 b3 b4 b5)))) → (a x ≡ s) × (a y ≡ o)
+    go true true b2 b3 b4 b5 t = named t
+    go false true b2 b3 b4 b5 t = absurd t
+    go true false true b3 b4 b5 t = absurd t
+    go false false true b3 b4 b5 t = named t
+    go true false false true b4 b5 t = absurd t
+    go false false false true b4 b5 t = absurd t
+    go true false false false true b5 t = absurd t
+    go false false false false true b5 t = absurd t
+    go true false false false false true t = absurd t
+    go false false false false false true t = absurd t
+    go true false false false false false t = absurd t
+    go false false false false false false t = absurd t
+
+asked-lacks : (b : Bool) (m : State) (r s o n i : ℕ) (c : Command) → Tried c n → (k q : ℕ) → Asks c k q → m .cell (onSide (k / 2) s o) (onSide (k % 2) s o) q ≡ false
+    → touchingIn b m r s o n i (meaning c) ≡ none
+asked-lacks b m r s o n i c H k q A e = never-touching b m r s o n i (meaning c) (λ p.
+    let a = namesOfPlace (meaning c) n p in
+    ap (λ (w : ModelOperation). elim (pick b (entersAt r s o a w) (deletesAt r s o a w)) [ true ↦ doable (meaning c) m a | false ↦ false ]) (operation-is c n H)
+    ∙ go a (pick b (entersAt r s o a (modelOf (operationAt c 0))) (deletesAt r s o a (modelOf (operationAt c 0)))) (on-cell b r s o c a))
+  where
+    go : (a : Actuals) (u : Bool) → (T u → (a (firstOf c) ≡ s) × (a (secondOf c) ≡ o)) → _≡_ {A = Bool} (elim u [ true ↦ doable (meaning c) m a | false ↦ false ]) false
+    go a true f = unheld c m a k q A (ap₂ (λ (u v : ℕ). m .cell (onSide (k / 2) u v) (onSide (k % 2) u v) q) (f tt .0) (f tt .1) ∙ e)
+    go a false f = refl
+
+-- ---- the commands that are left: st is m, or m without some rights
+module _ (p : Policy) (F : PolicyFits p) (single : SingleSteps p) (n : ℕ) (small : n ≤ names) (m : Matrix) (st : State) (less : (u v q : ℕ) → stateOf m .cell u v q ≡ false → st .cell u v q ≡ false)
+    (s o : ℕ) (asks : List ℕ) (A : AskedBy p asks) (lacking : ℕ) (L : LackingAt asks (m .cells) s o lacking) where
+  lacks-none : (b : Bool) (r i : ℕ) → i < p .commands → has lacking i ≡ true → touchingIn b st r s o n i (meaning (getD (p .command) i missing)) ≡ none
+  lacks-none b r i l t =
+      let X = L .says i t in
+      let k = X .cell in
+      let q = X .lacks .right in
+      let lk : k < 4 = X .few in
+      let lq : q < rights = X .lacks .small in
+      let zk : (rights * k + q) / rights ≡ k = omega arith in
+      let zq : (rights * k + q) % rights ≡ q = omega arith in
+      asked-lacks b st r s o n i (getD (p .command) i missing) (command-tried p F single n small i l (getD (p .command) i missing) refl) k q
+      (subst (λ (z : ℕ). Asks (getD (p .command) i missing) k z) zq (subst (λ (z : ℕ). Asks (getD (p .command) i missing) z ((rights * k + q) % rights)) zk (A .says (rights * k + q) i (omega arith) (X .lacks .asked))))
+      (less (onSide (k / 2) s o) (onSide (k % 2) s o) q (cell-lacks m (onSide (k / 2) s o) (onSide (k % 2) s o) q (X .lacks .lacks)))
+
+  pub left-covers : (b : Bool) (r which left : ℕ) → ConcernedBy p b r which → Says left (leftIn which lacking) → Covers p b st r s o n left
+  unfolding leftIn
+  left-covers b r which left W E = record {
+    none-else = λ (i : ℕ) (l : i < p .commands) (e : has left i ≡ false). go i l (has which i) (has lacking i) refl refl (sym (E .says i (omega (arith, F .few-commands))) ∙ e);
+  }
+    where
+      go : (i : ℕ) → i < p .commands → (u v : Bool) → has which i ≡ u → has lacking i ≡ v → u && not v ≡ false → touchingIn b st r s o n i (meaning (getD (p .command) i missing)) ≡ none
+      go i l false v f g e = concerned-covers p F single b st r s o n small which W .none-else i l f
+      go i l true true f g e = lacks-none b r i l g
+      go i l true false f g e = absurd (clash true e refl)
