@@ -8,6 +8,7 @@ use bench::families::{all, Sample};
 use bench::table::{listing, Answer, Table};
 use bench::{logic, pruned};
 use reference::file;
+use std::collections::BTreeMap;
 use std::fs::{self, File};
 use std::io::Read;
 use std::path::{Path, PathBuf};
@@ -24,6 +25,12 @@ const SEED: u64 = 20_260_101;
 const LONG: Duration = Duration::from_millis(100);
 const SHORT: Duration = Duration::from_millis(30);
 const CALLGRIND: Duration = Duration::from_secs(60);
+
+/// What is to be reached: so many times fewer instructions than the plain loops
+/// on these families, no file longer, and each ahead of the solver.
+const FEWER: u64 = 300;
+const HELD_TO: [&str; 3] = ["large", "wide", "chain"];
+const LONGEST: Duration = Duration::from_millis(500);
 
 struct Bench {
     folder: PathBuf,
@@ -134,9 +141,14 @@ fn instructions(program: &Path, rounds: Option<u64>, input: &Path) -> Option<u64
 
 impl Bench {
     /// The solver's time; its verdict must be the judge's.
-    fn solve(&self, sample: &Sample, contents: &file::Contents, is_unsafe: bool) -> String {
+    fn solve(
+        &self,
+        sample: &Sample,
+        contents: &file::Contents,
+        is_unsafe: bool,
+    ) -> (String, Option<Duration>) {
         let Some(solver) = self.solver else {
-            return "-".to_string();
+            return ("-".to_string(), None);
         };
         let path = self.folder.join(format!("{}.lp", sample.name));
         fs::write(&path, logic::program(contents, sample.right)).expect("written");
@@ -148,14 +160,14 @@ impl Bench {
         });
         command.arg(&path);
         match run(&mut command, &path, self.limit) {
-            Run::TooLong => over(self.limit),
+            Run::TooLong => (over(self.limit), Some(self.limit)),
             Run::Ended(printed, took) => {
                 let text = String::from_utf8_lossy(&printed).into_owned();
                 let found = text.lines().any(|line| line == "leak" || line == "leak.");
                 if found != is_unsafe {
                     fail(&format!("{solver} on {}: leak {found}", path.display()));
                 }
-                seconds(took)
+                (seconds(took), Some(took))
             }
         }
     }
@@ -267,6 +279,7 @@ fn main() {
     print_row(&HEAD.map(String::from));
     println!("|---|---:|---|---:|---:|---:|---:|---:|---:|---:|---:|---:|");
     let mut missed = Vec::new();
+    let mut sums: BTreeMap<&str, (u64, u64)> = BTreeMap::new();
     for sample in all(SEED) {
         let bytes = sample.draft.file();
         let contents = file::read(&bytes).expect("an accepted file");
@@ -293,6 +306,7 @@ fn main() {
             .map(|(desk, plain)| times(plain as f64, desk as f64));
         let shown = |time: Option<Duration>| time.map_or_else(|| over(bench.limit), seconds);
         let none = || "-".to_string();
+        let (solver_time, solved) = bench.solve(&sample, &contents, answer.is_unsafe);
         print_row(&[
             sample.name.clone(),
             bytes.len().to_string(),
@@ -307,24 +321,45 @@ fn main() {
             fewer
                 .as_ref()
                 .map_or_else(none, |fewer| format!("{about}{fewer}")),
-            bench.solve(&sample, &contents, answer.is_unsafe),
+            solver_time,
         ]);
 
-        // What is to be reached; a plain run past the limit is fast enough.
-        let held_to = matches!(sample.family, "large" | "wide" | "closing");
-        if held_to && faster.is_none_or(|faster| faster < 20.0) {
-            missed.push(format!(
-                "{}: less than 20 times faster ({} times fewer instructions)",
-                sample.name,
-                fewer.as_deref().unwrap_or("unknown")
-            ));
+        // What is to be reached.
+        if HELD_TO.contains(&sample.family) {
+            let (Some(desk), Some(plain)) = (desk_count, plain_count) else {
+                fail(&format!("{}: no count of instructions", sample.name));
+            };
+            let sums = sums.entry(sample.family).or_insert((0, 0));
+            sums.0 += desk;
+            sums.1 += plain;
+            if plain < FEWER * desk {
+                missed.push(format!(
+                    "{}: {} times fewer instructions",
+                    sample.name,
+                    times(plain as f64, desk as f64)
+                ));
+            }
         }
-        if desk_time.is_none_or(|desk| desk > Duration::from_secs(10)) {
-            missed.push(format!("{}: more than 10 s", sample.name));
+        if desk_time.is_none_or(|desk| desk > LONGEST) {
+            missed.push(format!("{}: more than {LONGEST:?}", sample.name));
+        }
+        if solved.is_some_and(|solver| desk_time.is_none_or(|desk| desk >= solver)) {
+            missed.push(format!("{}: behind the solver", sample.name));
+        }
+    }
+    for (family, (desk, plain)) in &sums {
+        println!(
+            "{family}: {} times fewer instructions in all",
+            times(*plain as f64, *desk as f64)
+        );
+        if *plain < FEWER * *desk {
+            missed.push(format!("{family} in all: less than {FEWER} times"));
         }
     }
     if missed.is_empty() {
-        println!("reached: 20 times faster on large, wide and closing; no file over 10 s");
+        println!(
+            "reached: {FEWER} times fewer instructions on {HELD_TO:?}; no file over {LONGEST:?}"
+        );
     }
     for line in missed {
         println!("missed: {line}");
