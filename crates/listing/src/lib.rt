@@ -46,11 +46,18 @@ pub fn put_decimal(out: &mut [u8], at: usize, n: usize) -> usize
     put_byte(out, next, 48 + (n % 10) as u8)
 }
 
-// A byte in decimal takes at most three digits.
+// A byte in decimal takes at most three digits; the numbers of rules and names have one or two, and they are written directly.
 fn put_number(out: &mut [u8], at: usize, n: u8) -> usize
     requires { ⌜ at + 3 ≤ length (now out) ⌝ }
     ensures { λ r. ⌜ PutWithin 3 (now (out .entry)) at (decimal n) r (now (out .exit)) ⌝ }
 {
+    if n < 10 {
+        return put_byte(out, at, 48 + n);
+    }
+    if n < 100 {
+        let next = put_byte(out, at, 48 + n / 10);
+        return put_byte(out, next, 48 + n % 10);
+    }
     put_decimal(out, at, n as usize)
 }
 
