@@ -16,14 +16,8 @@ use Rattle.listing.specs.Writing.{Put, PutWithin}
 use Rattle.listing.proofs.Written.{put-then, put-none}
 
 -- the array has 32 places, and behind them stands no rule
-pub no-blanks : (X : Type 0) (f : Command → X) (p : Policy) (i : ℕ) → length (map f (p .command)) ≡ 32 → 32 ≤ i → 0 ≡ blanksOf p i
-no-blanks X f p i e h = let z : length (p .command) ≡ 32 = sym (length-map (p .command) f) ∙ e in ap (λ (c : Command). c .parameters) (sym (List·getD-eq-default (p .command) missing (omega arith)))
-
-pub blanks-are : (p : Policy) (i : ℕ) (c : Command) → c ≡ getD (p .command) i missing → c .parameters ≡ blanksOf p i
-blanks-are p i c e = ap (λ (c : Command). c .parameters) e
-
-pub step-put : (b b' t : List ℕ) (p : Policy) (at i k r : ℕ) → k ≡ blanksOf p (getD t (5 * i) 0) → PutWithin 20 b at (line k (callAt t i)) r b' → PutWithin 20 b at (stepLine p (callAt t i)) r b'
-step-put b b' t p at i k r e h = subst (λ (n : ℕ). PutWithin 20 b at (line n (callAt t i)) r b') e h
+pub no-blanks : (X : Type 0) (f : Command → X) (p : Policy) (i k : ℕ) → length (map f (p .command)) ≡ 32 → 32 ≤ i → k ≡ 0 → k ≡ blanksOf p i
+no-blanks X f p i k e h z = let l : length (p .command) ≡ 32 = sym (length-map (p .command) f) ∙ e in z ∙ ap (λ (c : Command). c .parameters) (sym (List·getD-eq-default (p .command) missing (omega arith)))
 
 lines-more : (p : Policy) (xs : List Call) (x : Call) → lines p (xs ++ (x ∷ [])) ≡ lines p xs ++ stepLine p x
 lines-more p [] x = append-nil (stepLine p x)
@@ -37,12 +31,13 @@ listed-more f (suc n) j = let z : suc j + n ≡ j + suc n = omega arith in ap (�
 pub lines-start : (b t : List ℕ) (p : Policy) (at : ℕ) → Put b at (lines p (calls t 0)) at b
 lines-start b t p at = put-none b at
 
-pub lines-next : (b b' b'' t : List ℕ) (p : Policy) (from at i n r : ℕ) → from + 20 * n ≤ length b → Put b from (lines p (calls t i)) at b' → PutWithin 20 b' at (stepLine p (callAt t i)) r b'' → Put b from (lines p (calls t (i + 1))) r b''
-lines-next b b' b'' t p from at i n r h q e =
-    let s : lines p (calls t (i + 1)) ≡ lines p (calls t i) ++ stepLine p (callAt t i) =
+pub lines-next : (b b' b'' t : List ℕ) (p : Policy) (from at i n k r : ℕ) → from + 20 * n ≤ length b → Put b from (lines p (calls t i)) at b' → k ≡ blanksOf p (getD t (5 * i) 0) → PutWithin 20 b' at (line k (callAt t i)) r b''
+    → Put b from (lines p (calls t (i + 1))) r b''
+lines-next b b' b'' t p from at i n k r h q z e =
+    let s : lines p (calls t (i + 1)) ≡ lines p (calls t i) ++ line k (callAt t i) =
     ap (λ (n : ℕ). lines p (listed (callAt t) n 0)) (add-one i) ∙ ap (lines p) (listed-more (callAt t) i 0) ∙ lines-more p (calls t i) (callAt t (0 + i))
-    ∙ (let z : 0 + i ≡ i = omega arith in ap (λ (n : ℕ). lines p (calls t i) ++ stepLine p (callAt t n)) z) in
-    subst (λ (l : List ℕ). Put b from l r b'') (sym s) (put-then b b' b'' (lines p (calls t i)) (stepLine p (callAt t i)) from at r (omega arith) q (e .put))
+    ∙ (let w : 0 + i ≡ i = omega arith in ap (λ (n : ℕ). lines p (calls t i) ++ stepLine p (callAt t n)) w) ∙ ap (λ (n : ℕ). lines p (calls t i) ++ line n (callAt t i)) (sym z) in
+    subst (λ (l : List ℕ). Put b from l r b'') (sym s) (put-then b b' b'' (lines p (calls t i)) (line k (callAt t i)) from at r (omega arith) q (e .put))
 
 pub lines-end : (b b' t : List ℕ) (p : Policy) (from at i n : ℕ) → i ≤ n → n ≤ i → Put b from (lines p (calls t i)) at b' → Put b from (lines p (calls t n)) at b'
 lines-end b b' t p from at i n h l q = let z : i ≡ n = omega arith in subst (λ (k : ℕ). Put b from (lines p (calls t k)) at b') z q

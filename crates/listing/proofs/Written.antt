@@ -121,6 +121,14 @@ number-room b n at h k = let z = byte-digits n h in omega arith
 pub number-put : (b b' : List ℕ) (n at r : ℕ) → n < 256 → Put b at (decimal n) r b' → PutWithin 3 b at (decimal n) r b'
 number-put b b' n at r h p = record { put = p; few = let z = byte-digits n h in let w = p .next in omega arith }
 
+pub one-digit-put : (b b' : List ℕ) (n at r : ℕ) → n < 10 → Put b at ((48 + n) ∷ []) r b' → PutWithin 3 b at (decimal n) r b'
+one-digit-put b b' n at r h p = number-put b b' n at r (omega arith) (small-put b b' n at r h p)
+
+pub two-digits-put : (b b' b'' : List ℕ) (n at r r' : ℕ) → 10 ≤ n → n < 100 → at + 3 ≤ length b → Put b at ((48 + n / 10) ∷ []) r b' → Put b' r ((48 + n % 10) ∷ []) r' b'' → PutWithin 3 b at (decimal n) r' b''
+two-digits-put b b' b'' n at r r' h l k p q =
+    let s : n < 256 = omega arith in
+    number-put b b'' n at r' s (more-put b b' b'' n at r r' h (number-room b n at s k) (small-put b b' (n / 10) at r (omega arith) p) q)
+
 pub put-none : (b : List ℕ) (at : ℕ) → Put b at [] at b
 put-none b at = record {
   next = let z : at + 0 ≡ at = omega arith in sym z;

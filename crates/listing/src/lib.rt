@@ -3,7 +3,7 @@ ghost use mathlib.Core.Path.{_≡_};
 ghost use mathlib.Core.List.{[], _∷_, _++_};
 ghost use Prim.Native.Nat.{_+_, _*_, _≤_, _<_};
 ghost use lib.ListN.{length, take};
-ghost use Rattle.listing.specs.Listing.{unsafeWord, decimal, spaced, head, blanksOf, stepLine, line, lines, printed, bufferBytes, listing};
+ghost use Rattle.listing.specs.Listing.{unsafeWord, decimal, spaced, head, line, lines, printed, bufferBytes, listing};
 ghost use Rattle.listing.specs.Writing.{Put, PutWithin, shownActual, Room, listingBytes, Answered};
 ghost use Rattle.trace.specs.Traces.{callAt, calls};
 ghost use Rattle.safety.specs.Judgement.{stepsWritten};
@@ -46,11 +46,18 @@ pub fn put_decimal(out: &mut [u8], at: usize, n: usize) -> usize
     put_byte(out, next, 48 + (n % 10) as u8)
 }
 
-// A byte in decimal takes at most three digits.
+// A byte in decimal takes at most three digits; the numbers of rules and names have one or two, and they are written directly.
 fn put_number(out: &mut [u8], at: usize, n: u8) -> usize
     requires { ⌜ at + 3 ≤ length (now out) ⌝ }
     ensures { λ r. ⌜ PutWithin 3 (now (out .entry)) at (decimal n) r (now (out .exit)) ⌝ }
 {
+    if n < 10 {
+        return put_byte(out, at, 48 + n);
+    }
+    if n < 100 {
+        let next = put_byte(out, at, 48 + n / 10);
+        return put_byte(out, next, 48 + n % 10);
+    }
     put_decimal(out, at, n as usize)
 }
 
@@ -87,31 +94,17 @@ fn put_line(out: &mut [u8], at: usize, k: u8, rule: u8, a0: u8, a1: u8, a2: u8, 
     put_byte(out, b2, b'\n')
 }
 
-// The blanks of a rule; a number that no rule has stands for none.
-fn blanks_of(p: Policy, rule: u8) -> u8
-    ensures { λ r. ⌜ r ≡ blanksOf p rule ⌝ }
-{
-    let i = rule as usize;
-    if Policy::COMMANDS <= i {
-        return 0;
-    }
-    let command = p.command_at(i);
-    command.parameters
-}
-
-// The line of step i.
-fn put_step(out: &mut [u8], at: usize, p: Policy, steps: &[u8], i: usize) -> usize
+// The line of step i, whose rule has k blanks.
+fn put_step(out: &mut [u8], at: usize, k: u8, steps: &[u8], i: usize) -> usize
     requires { ⌜ (at + 20 ≤ length (now out)) × (5 * i + 5 ≤ length (now steps)) ⌝ }
-    ensures { λ r. ⌜ PutWithin 20 (now (out .entry)) at (stepLine p (callAt (now (steps .entry)) i)) r (now (out .exit)) ⌝ }
+    ensures { λ r. ⌜ PutWithin 20 (now (out .entry)) at (line k (callAt (now (steps .entry)) i)) r (now (out .exit)) ⌝ }
 {
     let from = 5 * i;
-    let rule = steps[from];
-    let k = blanks_of(p, rule);
     put_line(
         out,
         at,
         k,
-        rule,
+        steps[from],
         steps[from + 1],
         steps[from + 2],
         steps[from + 3],
@@ -119,14 +112,20 @@ fn put_step(out: &mut [u8], at: usize, p: Policy, steps: &[u8], i: usize) -> usi
     )
 }
 
-// The lines of the first n steps.
+// The lines of the first n steps; a number that no rule has stands for no blanks.
 fn put_lines(out: &mut [u8], from: usize, p: Policy, steps: &[u8], n: usize) -> usize
     requires { ⌜ (from + 20 * n ≤ length (now out)) × (5 * n ≤ length (now steps)) ⌝ }
     ensures { λ r. ⌜ Put (now (out .entry)) from (lines p (calls (now (steps .entry)) n)) r (now (out .exit)) ⌝ }
 {
     let mut at = from;
     for i in 0..n {
-        at = put_step(out, at, p, steps, i);
+        let rule = steps[5 * i] as usize;
+        let mut k = 0;
+        if rule < Policy::COMMANDS {
+            let c = p.command[rule];
+            k = c.parameters;
+        }
+        at = put_step(out, at, k, steps, i);
     }
     at
 }

@@ -1,9 +1,10 @@
-use Rattle.listing.proofs.Lines.{lines-start, lines-next, lines-end}
+use mathlib.Core.Logic.{⊎-elim}
+use Rattle.listing.proofs.Lines.{no-blanks, lines-start, lines-next, lines-end}
 use Prim.Native.Nat.{_+_, _*_, _-_, _≤_}
 use mathlib.Core.Path.{_≡_, refl}
-use lib.ListN.{length}
+use lib.ListN.{length, getD}
 use Rattle.trace.specs.Traces.{calls}
-use Rattle.listing.specs.Listing.{lines}
+use Rattle.listing.specs.Listing.{blanksOf, lines}
 use Rattle.listing.specs.Writing.{Put}
 use borrow.Author.Needs.{needs}
 use native.Mathlib.Omega.{arith}
@@ -11,13 +12,28 @@ use Rattle.listing.proofs.put_lines.Statement.{statement}
 use Rattle.listing.proofs.put_lines.Tie as tie
 
 abbrev Inv-loop : tie.InvT-loop
-Inv-loop out₀ from p steps n at₀ i₀ out at i = (i ≤ n) × (at ≤ from + 20 * i) × (length out ≡ length out₀) × Put out₀ from (lines p (calls steps i)) at out
+Inv-loop out₀ from steps n p at₀ i₀ out at i = (i ≤ n) × (at ≤ from + 20 * i) × (length out ≡ length out₀) × Put out₀ from (lines p (calls steps i)) at out
 
 abbrev μ-loop : tie.MeasureT-loop
-μ-loop out₀ from p steps n at₀ i₀ out at i = n - i
+μ-loop out₀ from steps n p at₀ i₀ out at i = n - i
 
 loop-holds : tie.Need-loop-holds Inv-loop μ-loop
 loop-holds c = (omega arith, omega arith, refl, search lines-start)
+
+mul-rule : tie.Need-mul-rule Inv-loop μ-loop
+mul-rule c = search needs
+
+shared-slice-read-rule : tie.Need-shared-slice-read-rule Inv-loop μ-loop
+shared-slice-read-rule c = omega arith
+
+cast-rule : tie.Need-cast-rule Inv-loop μ-loop
+cast-rule c = omega (arith, c .shared-slice-known2 .given (5 * c .before .before .loop .i))
+
+mul-c : tie.Need-mul-c Inv-loop μ-loop
+mul-c c = search needs
+
+element-copy-out-c : tie.Need-element-copy-out-c Inv-loop μ-loop
+element-copy-out-c c = search needs
 
 put-step-requires : tie.Need-put-step-requires Inv-loop μ-loop
 put-step-requires c κs = (omega arith, omega arith)
@@ -28,8 +44,12 @@ add-i c = omega arith
 loop-less : tie.Need-loop-less Inv-loop μ-loop
 loop-less c = omega arith
 
+-- the branch gives the rule's blanks
+blanks : (c : tie.Joined1 Inv-loop μ-loop) → c .if1 .k ≡ blanksOf (c .before .before .before .before .before .before .args .t3) (getD (c .before .before .before .before .before .before .args .steps .now) (5 * c .before .before .before .loop .i) 0)
+blanks c = ⊎-elim (λ w. w .2) (λ w. search no-blanks) (c .if1 .came)
+
 loop-again : tie.Need-loop-again Inv-loop μ-loop
-loop-again c = (omega arith, omega arith, omega arith, search lines-next)
+loop-again c = let z = blanks (c .before .before .before .before) in (omega arith, omega arith, omega arith, search lines-next)
 
 same-length : tie.Need-same-length Inv-loop μ-loop
 same-length c = search needs
@@ -44,6 +64,11 @@ put-lines-spec =
     Inv-loop
     μ-loop
     loop-holds
+    mul-rule
+    shared-slice-read-rule
+    cast-rule
+    mul-c
+    element-copy-out-c
     put-step-requires
     add-i
     loop-less
