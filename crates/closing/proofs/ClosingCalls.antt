@@ -32,9 +32,9 @@ use Rattle.queries.specs.Useful.{doable, namesOfPlace, touchesAt, Tried}
 use Rattle.queries.proofs.Picking.{first-same, gone-state, gone-seen}
 use Rattle.policy.specs.Contents.{systemOf}
 use Rattle.policy.specs.declared.Policy.{Policy}
-use Rattle.rounds.specs.Engine.{commandNumber}
-use Rattle.rounds.proofs.Asked.{command-found}
-use Rattle.rounds.proofs.Visits.{allowed-is}
+use Rattle.visits.specs.Engine.{commandNumber}
+use Rattle.visits.proofs.Asked.{command-found}
+use Rattle.visits.proofs.Visits.{allowed-is}
 use Rattle.closing.specs.Asks.{AskedBy, LackingAt, leftIn}
 use Rattle.closing.specs.Closing.{foundCall, pairOf, ConcernedBy, Covers, touching, firstTouching, placeTouching, touchingIn, bothAt, Closing}
 use Rattle.closing.specs.declared.Found.{Found}

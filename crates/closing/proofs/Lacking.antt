@@ -35,7 +35,7 @@ use Rattle.queries.proofs.Goodness.{doable-holds, hold-each}
 use Rattle.queries.proofs.Shapes.{operation-is}
 use Rattle.policy.specs.Fits.{PolicyFits}
 use Rattle.policy.specs.declared.Policy.{Policy}
-use Rattle.rounds.specs.Engine.{SingleSteps}
+use Rattle.visits.specs.Engine.{SingleSteps}
 use Rattle.closing.specs.Closing.{touchingIn, ConcernedBy, Covers}
 use Rattle.closing.proofs.PassedBy.{never-touching, command-tried, concerned-covers}
 use Rattle.closing.specs.Asks.{onSide, firstOf, secondOf, Asks, AskedBy, LackingIn, LackingAt, leftIn}

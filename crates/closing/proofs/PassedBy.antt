@@ -26,7 +26,7 @@ use Rattle.queries.proofs.Closing.{none-at-all}
 use Rattle.queries.proofs.NameMasks.{Filled, filled-start, filled-more, marked-yes, marked-no}
 use Rattle.policy.specs.Fits.{PolicyFits}
 use Rattle.policy.specs.declared.Policy.{Policy}
-use Rattle.rounds.specs.Engine.{SingleSteps}
+use Rattle.visits.specs.Engine.{SingleSteps}
 use Rattle.closing.specs.Closing.{concernsRight, concernsIn, ConcernedBy, placeTouching, touchingIn, Covers}
 
 -- ---- for `concerns`

@@ -24,9 +24,9 @@ use Rattle.queries.proofs.Picking.{none-from}
 use Rattle.policy.specs.Contents.{systemOf}
 use Rattle.policy.specs.Fits.{PolicyFits}
 use Rattle.policy.specs.declared.Policy.{Policy}
-use Rattle.rounds.specs.Engine.{SingleSteps}
-use Rattle.rounds.proofs.Firsts.{first-here, first-next, first-end}
-use Rattle.rounds.proofs.Coming.{lowest-small, lowest-kinds}
+use Rattle.visits.specs.Engine.{SingleSteps}
+use Rattle.visits.proofs.Firsts.{first-here, first-next, first-end}
+use Rattle.visits.proofs.Coming.{lowest-small, lowest-kinds}
 use Rattle.closing.specs.Asks.{AskedBy}
 use Rattle.closing.specs.Closing.{pairOf, ConcernedBy, firstTouching, bothAt, Closable, Closing}
 use Rattle.closing.specs.declared.Pair.{Pair}

@@ -21,7 +21,7 @@ use Rattle.queries.specs.Useful.{touchesAt}
 use Rattle.queries.specs.Sought.{Seen}
 use Rattle.policy.specs.Fits.{PolicyFits}
 use Rattle.policy.specs.declared.Policy.{Policy}
-use Rattle.rounds.specs.Engine.{SingleSteps}
+use Rattle.visits.specs.Engine.{SingleSteps}
 use Rattle.closing.specs.declared.Found.{Found}
 use Rattle.closing.specs.declared.Pair.{Pair}
 

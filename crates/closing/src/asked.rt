@@ -1,7 +1,7 @@
 // What commands ask of the cells of their operation's own two parameters. In the closing search these have names, s and o, and a command that asks for a
 // right which one of the four cells lacks is passed by with all the others of that kind, as digits of one mask.
 ghost use mathlib.Core.Path.{_≡_};
-ghost use mathlib.Core.Bool.{not, _&&_};
+ghost use mathlib.Core.Bool.{_&&_};
 ghost use Prim.Native.Nat.{_+_, _*_, _<_};
 ghost use lib.Dec.{ltb};
 ghost use lib.ListN.{length};

@@ -1,16 +1,15 @@
 -- Demand 3: of every input the judge's answer and buffer; and where nothing is refused, the verdict is the truth about all runs. Assumes nothing.
-use Prim.Native.Nat.{ℕ, zero, suc, _+_, _*_, _-_, _≤_, _<_}
-use mathlib.Core.Path.{_≡_, refl, sym, ap, ap₂, _∙_, subst}
+use Prim.Native.Nat.{ℕ, suc, _*_, _-_, _≤_, _<_}
+use mathlib.Core.Path.{_≡_, refl, sym, ap, _∙_, subst}
 use mathlib.Core.Bool.{Bool, true, false, not}
-use mathlib.Core.List.{List, [], _∷_, _++_}
-use mathlib.Core.Logic.{_↔_}
+use mathlib.Core.List.{List}
 use native.Mathlib.Omega.{arith}
 use native.Mathlib.Decide.{decLt}
-use borrow.Author.Tests.{eq-eqb, ne-eqb, le-leb, lt-leb, lt-ltb, le-ltb}
-use lib.Dec.{T, eqb, leb, ltb, eqb→eq, ltb→lt}
+use borrow.Author.Tests.{ne-eqb, le-leb, lt-ltb}
+use lib.Dec.{T, eqb, leb, ltb, ltb→lt}
 use lib.ListN.{length, getD, drop}
-use Rattle.cases.specs.Cases.{pick, each, listed}
-use Rattle.cases.proofs.Bools.{holds as test-holds, stable, not-not}
+use Rattle.cases.specs.Cases.{pick, each}
+use Rattle.cases.proofs.Bools.{holds as test-holds}
 use Rattle.cases.proofs.Loops.{each-at}
 use Rattle.protection.specs.Limits.{startNames}
 use Rattle.protection.specs.State.{State}
@@ -29,13 +28,13 @@ use Rattle.policy.specs.declared.Policy.{Policy}
 use Rattle.policy.specs.declared.PolicyRead.{PolicyRead}
 use Rattle.policy.proofs.Laws.{read-refusal, read-policy}
 use Rattle.policy.proofs.ReadPolicy.{policy-fits-read}
-use Rattle.trace.specs.Traces.{callAt, calls}
+use Rattle.trace.specs.Traces.{calls}
 use Rattle.safety.specs.Judgement.{oneStep, callerRefusal, judgeRefusal, fileVerdict, judgementOf, fileJudgement, stepsWritten, isSafe, isUnsafe, filled, fileBuffer, Demand3, Judged}
-use Rattle.rounds.specs.Engine.{boundOf, SingleSteps, Asked}
+use Rattle.visits.specs.Engine.{boundOf, Asked}
 use Rattle.safety.specs.Conclusion.{Concluded}
 use Rattle.safety.specs.declared.Judgement.{Judgement}
 use Rattle.safety.specs.declared.Judgement.the-variants.{Refused, Safe, Unsafe}
-use Rattle.rounds.proofs.Asked.{taken}
+use Rattle.visits.proofs.Asked.{taken}
 use Rattle.safety.proofs.Buffers.{calls-back, rest-behind}
 
 -- ---- a question that is not refused

@@ -12,7 +12,7 @@ use Rattle.closing.proofs.complete.Reads as complete-reads
 use Rattle.closing.proofs.no_pair.Reads as no-pair-reads
 use Rattle.closing.proofs.pair_at.Reads as pair-at-reads
 use Rattle.rights.proofs.holds.Reads as holds-reads
-use Rattle.rounds.proofs.lowest_absent.Reads as lowest-absent-reads
+use Rattle.visits.proofs.lowest_absent.Reads as lowest-absent-reads
 
 abbrev Inv-loop : tie.InvT-loop
 Inv-loop p taking returning asks kinds cells row col right n start cell₀ cell = Cells p (matrixOf kinds cells) (tablesOf row col) right taking returning asks start n cell
