@@ -214,6 +214,21 @@ fn ballast(names: usize, tokens: u8) -> (Draft, u8) {
     (draft, right)
 }
 
+/// The same with the rules that cost the judge most, as far as is known: each
+/// round enters a right that they test, and each search goes through all names
+/// of three blanks before it fails, since the cell of the last two holds right 0.
+fn deep(names: usize, tokens: u8) -> (Draft, u8) {
+    let (mut draft, right) = grid(names, tokens, true);
+    let mut token = 1;
+    while draft.rules.len() < 32 {
+        let other = token % (tokens - 1) + 1;
+        let conditions = [[0, 0, 1], [0, 1, 2], [token, 2, 3], [other, 2, 3]];
+        draft.rules.push(rule(4, &conditions, &[[ENTER, 0, 2, 3]]));
+        token = other;
+    }
+    (draft, right)
+}
+
 /// Right 0 is in all cells and can be deleted everywhere, by the last of 16
 /// rules; it can be entered again in the last cell only, or nowhere.
 fn closing(names: usize, blanks: u8, leaks: bool) -> (Draft, u8) {
@@ -268,6 +283,7 @@ pub fn all(seed: u64) -> Vec<Sample> {
         Sample::new("chain", "5400", grid(30, 6, true)),
         Sample::new("chain", "5400-safe", grid(30, 6, false)),
         Sample::new("chain", "ballast", ballast(30, 6)),
+        Sample::new("worst", "deep", deep(30, 6)),
         Sample::new("closing", "3-blanks", closing(30, 3, true)),
         Sample::new("closing", "4-blanks", closing(30, 4, true)),
         Sample::new("closing", "safe", closing(30, 4, false)),
