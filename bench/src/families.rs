@@ -13,6 +13,8 @@ pub struct Sample {
     pub name: String,
     pub draft: Draft,
     pub right: u8,
+    /// A table with the same listing, where this one takes a judge too long.
+    pub same: Option<Draft>,
 }
 
 impl Sample {
@@ -22,6 +24,7 @@ impl Sample {
             name: format!("{family}-{name}"),
             draft,
             right,
+            same: None,
         }
     }
 }
@@ -283,7 +286,11 @@ pub fn all(seed: u64) -> Vec<Sample> {
         Sample::new("chain", "5400", grid(30, 6, true)),
         Sample::new("chain", "5400-safe", grid(30, 6, false)),
         Sample::new("chain", "ballast", ballast(30, 6)),
-        Sample::new("worst", "deep", deep(30, 6)),
+        // The rules that it has besides do nothing.
+        Sample {
+            same: Some(grid(30, 6, true).0),
+            ..Sample::new("worst", "deep", deep(30, 6))
+        },
         Sample::new("closing", "3-blanks", closing(30, 3, true)),
         Sample::new("closing", "4-blanks", closing(30, 4, true)),
         Sample::new("closing", "safe", closing(30, 4, false)),

@@ -710,3 +710,39 @@ pub fn chain(random: &mut Random) -> (Draft, u8) {
     }
     (draft, seal)
 }
+
+/// The same with rules by which a round does many steps: a token lets a right
+/// into a whole row, a column, or a triangle, and names be created late.
+pub fn busy_chain(random: &mut Random) -> (Draft, u8) {
+    let (mut draft, seal) = chain(random);
+    let (tokens, link) = (draft.rights - 3, draft.rights - 1);
+    for _ in 0..random.between(2, 6) {
+        if draft.rules.len() == 32 {
+            break;
+        }
+        let token = random.below(tokens as usize) as u8;
+        let other = random.below(tokens as usize) as u8;
+        let entered = match random.below(20) {
+            0 => seal,
+            1..=6 => link,
+            7..=12 => token,
+            _ => other,
+        };
+        let section = match random.below(6) {
+            // The cell goes with the last blank; with the first; with none but the first two.
+            0 => rule(2, &[[token, 0, 0]], &[[ENTER, entered, 0, 1]]),
+            1 => rule(2, &[[token, 1, 1]], &[[ENTER, entered, 0, 1]]),
+            2 if draft.names().len() <= 16 => {
+                let conditions = [[token, 0, 0], [link, 1, 2]];
+                rule(3, &conditions, &[[ENTER, entered, 0, 1]])
+            }
+            // A blank twice in the cell.
+            3 => rule(2, &[[token, 0, 1]], &[[ENTER, entered, 1, 1]]),
+            4 => rule(2, &[[token, 0, 0]], &[[CREATE_SUBJECT, 0, 1, 0]]),
+            _ => rule(2, &[[token, 0, 0]], &[[CREATE_OBJECT, 0, 1, 0]]),
+        };
+        let place = random.below(draft.rules.len() + 1);
+        draft.rules.insert(place, section);
+    }
+    (draft, seal)
+}

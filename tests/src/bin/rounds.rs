@@ -7,7 +7,7 @@ mod boundary_judge;
 #[path = "../boundary/replay.rs"]
 mod boundary_replay;
 
-use reference::generate::chain;
+use reference::generate::{busy_chain, chain, Draft};
 use reference::judge::UNSAFE;
 use reference::random::Random;
 use reference::report::{Arguments, Report};
@@ -32,39 +32,51 @@ fn main() {
     let random = &mut random;
     let mut report = Report::default();
 
-    report.group("tables with many rounds", tables, |group| {
-        let (mut safe, mut by_rounds, mut by_closing) = (0, 0, 0);
-        let (mut rounds, mut most, mut steps) = (0, 0, 0);
-        while group.inputs < tables {
-            let (draft, right) = chain(random);
-            let file = draft.file();
-            let (account, _) = compare(group, library, random, &file, right, needed(&file));
-            match (account.code, account.closing) {
-                (UNSAFE, true) => by_closing += 1,
-                (UNSAFE, false) => by_rounds += 1,
-                _ => safe += 1,
+    let mut compared = |what: &str, table: fn(&mut Random) -> (Draft, u8), per_table: [u64; 2]| {
+        report.group(what, tables, |group| {
+            let (mut safe, mut by_rounds, mut by_closing) = (0, 0, 0);
+            let (mut rounds, mut most, mut steps) = (0, 0, 0);
+            while group.inputs < tables {
+                let (draft, right) = table(random);
+                let file = draft.file();
+                let (account, _) = compare(group, library, random, &file, right, needed(&file));
+                match (account.code, account.closing) {
+                    (UNSAFE, true) => by_closing += 1,
+                    (UNSAFE, false) => by_rounds += 1,
+                    _ => safe += 1,
+                }
+                rounds += account.rounds;
+                most = most.max(account.rounds);
+                steps += account.steps;
             }
-            rounds += account.rounds;
-            most = most.max(account.rounds);
-            steps += account.steps;
-        }
-        println!(
-            "  safe {safe}, unsafe in a round {by_rounds}, unsafe by the closing search {by_closing}"
-        );
-        println!("  {rounds} rounds, at most {most}; {steps} steps");
-        // Of few tables no mix can be asked.
-        if tables >= 200 {
-            for (count, what) in [
-                (safe, "safe"),
-                (by_rounds, "unsafe in a round"),
-                (by_closing, "unsafe by the closing search"),
-            ] {
-                group.demand(10 * count >= tables, || format!("only {count} {what}"));
+            println!(
+                "  safe {safe}, unsafe in a round {by_rounds}, unsafe by the closing search {by_closing}"
+            );
+            println!("  {rounds} rounds, at most {most}; {steps} steps");
+            // Of few tables no mix can be asked.
+            if tables >= 200 {
+                for (count, what) in [
+                    (safe, "safe"),
+                    (by_rounds, "unsafe in a round"),
+                    (by_closing, "unsafe by the closing search"),
+                ] {
+                    group.demand(10 * count >= tables, || format!("only {count} {what}"));
+                }
+                let [few_rounds, few_steps] = per_table;
+                group.demand(rounds >= few_rounds * tables, || {
+                    format!("only {rounds} rounds")
+                });
+                group.demand(steps >= few_steps * tables, || format!("only {steps} steps"));
+                group.demand(most >= 100, || format!("at most {most} rounds"));
             }
-            group.demand(rounds >= 30 * tables, || format!("only {rounds} rounds"));
-            group.demand(most >= 100, || format!("at most {most} rounds"));
-        }
-    });
+        });
+    };
+    compared("tables with many rounds", chain, [30, 40]);
+    compared(
+        "tables with many rounds, and many steps in some",
+        busy_chain,
+        [8, 100],
+    );
 
     report.finish();
 }
