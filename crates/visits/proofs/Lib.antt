@@ -4,5 +4,6 @@ pub mod Firsts
 pub mod Visits
 pub mod Quieting
 pub mod Coming
+pub mod Knowing
 pub mod TestMarks
 pub mod Creating
