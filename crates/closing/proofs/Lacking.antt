@@ -1,5 +1,5 @@
 -- A command that asks in a cell of its operation's own names for a right that the cell lacks has no call there. Assumes nothing.
-use Prim.Native.Nat.{ℕ, zero, suc, _+_, _-_, _*_, _/_, _%_, _^_, _≤_, _<_, max}
+use Prim.Native.Nat.{ℕ, _+_, _-_, _*_, _/_, _%_, _^_, _≤_, _<_}
 use mathlib.Core.Path.{_≡_, refl, sym, ap, ap₂, _∙_, subst}
 use mathlib.Core.Bool.{Bool, true, false, not, _&&_, _||_}
 use mathlib.Core.List.{List}
@@ -13,8 +13,7 @@ use lib.ListN.{getD}
 use Rattle.cases.specs.Cases.{pick, each}
 use Rattle.cases.proofs.Bools.{and-left, and-right, or-cases, holds, is-true, is-false}
 use Rattle.cases.proofs.Loops.{each-at}
-use Rattle.rights.specs.Rights.{bit, has}
-use Rattle.rights.proofs.Bits.{bit-lt, bit-or}
+use Rattle.rights.specs.Rights.{has}
 use Rattle.rights.proofs.Sets.{has-none}
 use Rattle.protection.specs.Limits.{names, rights}
 use Rattle.protection.specs.State.{State, subjectIn, objectIn}
@@ -24,7 +23,7 @@ use Rattle.protection.specs.Judge.{deletesAt, entersAt}
 use Rattle.matrix.specs.Bytes.{inside}
 use Rattle.matrix.specs.Matrices.{stateOf}
 use Rattle.matrix.specs.declared.Matrix.{Matrix}
-use Rattle.masks.proofs.Digits.{has-and, has-not}
+use Rattle.masks.proofs.Digits.{has-and, has-or, has-not}
 use Rattle.search.specs.Narrowing.{Says}
 use Rattle.commands.specs.Contents.{missing, conditionOf, operationAt, modelOf, meaning}
 use Rattle.commands.specs.declared.Command.{Command}
@@ -39,18 +38,6 @@ use Rattle.visits.specs.Engine.{SingleSteps}
 use Rattle.closing.specs.Closing.{touchingIn, ConcernedBy, Covers}
 use Rattle.closing.proofs.PassedBy.{never-touching, command-tried, concerned-covers}
 use Rattle.closing.specs.Asks.{onSide, firstOf, secondOf, Asks, AskedBy, LackingIn, LackingAt, leftIn}
-
-or-two : (x y : ℕ) → x < 2 → y < 2 → eqb (max x y) 1 ≡ eqb x 1 || eqb y 1
-or-two zero zero p q = refl
-or-two zero (suc zero) p q = refl
-or-two (suc zero) zero p q = refl
-or-two (suc zero) (suc zero) p q = refl
-or-two zero (suc (suc y)) p q = absurd (omega arith)
-or-two (suc zero) (suc (suc y)) p q = absurd (omega arith)
-or-two (suc (suc x)) y p q = absurd (omega arith)
-
-has-or : (a b j : ℕ) → has (bitOr a b) j ≡ has a j || has b j
-has-or a b j = rw (bit-or a b j) (or-two (bit a j) (bit b j) (bit-lt a j) (bit-lt b j))
 
 or-has : (a b j : ℕ) → has (bitOr a b) j ≡ true → (has a j ≡ true) ⊎ (has b j ≡ true)
 or-has a b j t =
