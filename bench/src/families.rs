@@ -217,11 +217,29 @@ fn ballast(names: usize, tokens: u8) -> (Draft, u8) {
     (draft, right)
 }
 
-/// The same with the rules that cost the judge most, as far as is known: each
-/// round enters a right that they test, and each search goes through all names
-/// of three blanks before it fails, since the cell of the last two holds right 0.
-fn deep(names: usize, tokens: u8) -> (Draft, u8) {
-    let (mut draft, right) = grid(names, tokens, true);
+/// A token right walks through the columns, in all rows at once: a round is a
+/// step in each row.
+fn columns(names: usize, tokens: u8) -> (Draft, u8) {
+    let mut draft = descending(names);
+    for name in 0..names {
+        draft.put(name, names - 1, 0);
+    }
+    for token in (0..tokens).rev() {
+        let entered = if token + 1 < tokens { token + 1 } else { LINK };
+        let hand_over = [[token, 0, 1], [END, 1, 2]];
+        draft
+            .rules
+            .push(rule(3, &hand_over, &[[ENTER, entered, 0, 2]]));
+        let walk = [[token, 0, 1], [LINK, 1, 2]];
+        draft.rules.push(rule(3, &walk, &[[ENTER, token, 0, 2]]));
+    }
+    (draft, LINK)
+}
+
+/// The same with rules that cost much to search, and do nothing: each round
+/// enters a right that they test, and a search goes through all names of three
+/// blanks before it fails, since the cell of the last two holds right 0.
+fn deep((mut draft, right): (Draft, u8), tokens: u8) -> (Draft, u8) {
     let mut token = 1;
     while draft.rules.len() < 32 {
         let other = token % (tokens - 1) + 1;
@@ -286,10 +304,15 @@ pub fn all(seed: u64) -> Vec<Sample> {
         Sample::new("chain", "5400", grid(30, 6, true)),
         Sample::new("chain", "5400-safe", grid(30, 6, false)),
         Sample::new("chain", "ballast", ballast(30, 6)),
-        // The rules that it has besides do nothing.
+        // The rules that they have besides do nothing.
         Sample {
             same: Some(grid(30, 6, true).0),
-            ..Sample::new("worst", "deep", deep(30, 6))
+            ..Sample::new("worst", "deep", deep(grid(30, 6, true), 6))
+        },
+        // So many steps a round that the next one searches all places.
+        Sample {
+            same: Some(columns(30, 6).0),
+            ..Sample::new("worst", "broad", deep(columns(30, 6), 6))
         },
         Sample::new("closing", "3-blanks", closing(30, 3, true)),
         Sample::new("closing", "4-blanks", closing(30, 4, true)),
