@@ -236,8 +236,8 @@ fn columns(names: usize, tokens: u8) -> (Draft, u8) {
     (draft, LINK)
 }
 
-/// The same with rules that cost much to search, and do nothing: each round
-/// enters a right that they test, and a search goes through all names of three
+/// The same with rules that cost much to search, and do nothing: most rounds
+/// enter a right that they test, and a search goes through all names of three
 /// blanks before it fails, since the cell of the last two holds right 0.
 fn deep((mut draft, right): (Draft, u8), tokens: u8) -> (Draft, u8) {
     let mut token = 1;
@@ -246,6 +246,21 @@ fn deep((mut draft, right): (Draft, u8), tokens: u8) -> (Draft, u8) {
         let conditions = [[0, 0, 1], [0, 1, 2], [token, 2, 3], [other, 2, 3]];
         draft.rules.push(rule(4, &conditions, &[[ENTER, 0, 2, 3]]));
         token = other;
+    }
+    (draft, right)
+}
+
+/// Likewise with rules that enter what they test: while a token walks, each
+/// name of the last two blanks has partners that hold it and partners that lack
+/// it, and only a pair of names tells that both never meet.
+fn vain((mut draft, right): (Draft, u8), tokens: u8) -> (Draft, u8) {
+    let mut token = 1;
+    while draft.rules.len() < 32 {
+        let conditions = [[0, 0, 1], [0, 1, 2], [token, 2, 3]];
+        draft
+            .rules
+            .push(rule(4, &conditions, &[[ENTER, token, 2, 3]]));
+        token = token % (tokens - 1) + 1;
     }
     (draft, right)
 }
@@ -312,7 +327,7 @@ pub fn all(seed: u64) -> Vec<Sample> {
         // So many steps a round that the next one searches all places.
         Sample {
             same: Some(columns(30, 6).0),
-            ..Sample::new("worst", "broad", deep(columns(30, 6), 6))
+            ..Sample::new("worst", "broad", vain(columns(30, 6), 6))
         },
         Sample::new("closing", "3-blanks", closing(30, 3, true)),
         Sample::new("closing", "4-blanks", closing(30, 4, true)),
