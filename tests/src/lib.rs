@@ -9,7 +9,6 @@ pub mod file;
 pub mod generate;
 pub mod judge;
 pub mod machine;
-pub mod programs;
 pub mod random;
 pub mod replay;
 pub mod report;
