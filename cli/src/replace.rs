@@ -32,8 +32,10 @@ mod place;
 mod record;
 
 use change::Change;
+use hold::Lock;
 use log::Log;
 use place::Place;
+use std::fs::{File, Metadata};
 use std::path::{Path, PathBuf};
 
 pub struct Options {
@@ -75,37 +77,28 @@ impl Problem {
 }
 
 /// Hands the file's content to `work`, under the lock, and does what `work` says. `Done` comes back
-/// when all is on the device. Of a file of more than 64 kB `work` sees the first 64 kB, and may
-/// only keep it.
+/// when all is on the device. Of a file of 64 kB or more `work` sees the first 64 kB, and may only
+/// keep it.
 pub fn edit<T>(
     path: &Path,
     options: &Options,
     work: impl FnOnce(&[u8]) -> (Edit, T),
 ) -> Result<Outcome<T>, Problem> {
-    let place = Place::of(path)?;
-    let _lock = place.lock(options.wait, Some(&place.look()?))?;
-    let old = place.hold(options.wait)?;
-    let mut notes = mend::mend(&place, &old, options)?;
-    let was = place.alone(&old)?;
-    let content = place.read(&old)?;
+    let held = Held::take(path, options)?;
+    let content = held.place.read(&held.old)?;
     let (edit, value) = work(&content);
     let Edit::Write { file, log: step } = edit else {
+        let notes = held.notes;
         return Ok(Outcome::Unchanged { value, notes });
     };
     if content.len().max(file.len()) as u64 >= place::MOST {
-        return Err(place.about("too long to be replaced."));
+        return Err(held.place.about("too long to be replaced."));
     }
     let logged = match (&options.log, step) {
-        (Some(log), Some(step)) => Some((Log::open(log, &was)?, step)),
+        (Some(log), Some(step)) => Some((Log::open(log, &held.was)?, step)),
         _ => None,
     };
-    let change = Change {
-        place: &place,
-        old: &old,
-        was: &was,
-        file: &file,
-    };
-    notes.extend(change.make(logged)?);
+    let notes = held.write(&file, logged)?;
     Ok(Outcome::Done { value, notes })
 }
 
@@ -129,9 +122,43 @@ pub fn create(
         let text = "there is a file of this name already; --force replaces it.";
         return Err(Problem::about(path, text));
     }
-    let options = Options { wait, log: None };
-    let file = content.to_vec();
-    match edit(path, &options, |_| (Edit::Write { file, log: None }, ()))? {
-        Outcome::Unchanged { notes, .. } | Outcome::Done { notes, .. } => Ok(notes),
+    Held::take(path, &Options { wait, log: None })?.write(content, None)
+}
+
+/// A file under the lock, with nothing left beside it by a stopped run.
+struct Held<'a> {
+    place: Place<'a>,
+    old: File,
+    was: Metadata,
+    notes: Vec<String>,
+    /// The last field, and so given up last.
+    _lock: Lock,
+}
+
+impl Held<'_> {
+    fn take<'a>(path: &'a Path, options: &Options) -> Result<Held<'a>, Problem> {
+        let place = Place::of(path)?;
+        let lock = place.lock(options.wait, Some(&place.look()?))?;
+        let old = place.hold(options.wait)?;
+        let notes = mend::mend(&place, &old, options)?;
+        let was = place.alone(&old)?;
+        Ok(Held {
+            place,
+            old,
+            was,
+            notes,
+            _lock: lock,
+        })
+    }
+
+    fn write(self, file: &[u8], logged: Option<(Log, [u8; 5])>) -> Result<Vec<String>, Problem> {
+        let change = Change {
+            place: &self.place,
+            old: &self.old,
+            was: &self.was,
+            file,
+        };
+        let lost = change.make(logged)?;
+        Ok(self.notes.into_iter().chain(lost).collect())
     }
 }

@@ -78,38 +78,50 @@ impl Lost {
 }
 
 fn copy_attributes(new: &File, old: &File, lost: &mut Vec<Lost>) -> Result<(), Lost> {
-    let names = names(old);
-    // A folder may give its files an access control list of its own.
+    let unlisted = |why| Lost::of("access control list", why);
+    let names = names(old).map_err(unlisted)?;
     if !names.iter().any(|name| name.as_c_str() == ACCESS_LIST) {
-        // SAFETY: an open file and a string that ends in a zero. Where there is no list nothing is
-        // removed.
-        unsafe { fremovexattr(new.as_raw_fd(), ACCESS_LIST.as_ptr()) };
+        // A folder may give its files an access control list of its own.
+        // SAFETY: an open file and a string that ends in a zero.
+        let removed = unsafe { fremovexattr(new.as_raw_fd(), ACCESS_LIST.as_ptr()) };
+        had(removed as isize).map_err(unlisted)?;
     }
     for name in names {
         let Err(why) = copy_attribute(new, old, &name) else {
             continue;
         };
         if name.as_c_str() == ACCESS_LIST {
-            return Err(Lost::of("access control list", why));
+            return Err(unlisted(why));
         }
-        lost.push(Lost::of(
-            &format!("attribute {}", name.to_string_lossy()),
-            why,
-        ));
+        let what = format!("attribute {}", name.to_string_lossy());
+        lost.push(Lost::of(&what, why));
     }
     Ok(())
 }
 
-/// The names of a file's extended attributes; none where the file system has no such thing.
-fn names(file: &File) -> Vec<CString> {
+/// What a call on attributes said: nothing there, or a file system without attributes, is 0.
+fn had(said: isize) -> io::Result<usize> {
+    const NONE_THERE: i32 = 61;
+    const NOT_SUPPORTED: i32 = 95;
+    let wrong = io::Error::last_os_error();
+    match usize::try_from(said) {
+        Ok(length) => Ok(length),
+        Err(_) if matches!(wrong.raw_os_error(), Some(NONE_THERE | NOT_SUPPORTED)) => Ok(0),
+        Err(_) => Err(wrong),
+    }
+}
+
+/// The names of a file's extended attributes.
+fn names(file: &File) -> io::Result<Vec<CString>> {
     let mut list = vec![0u8; 65_536];
     // SAFETY: an open file, and a buffer with its length.
-    let length = unsafe { flistxattr(file.as_raw_fd(), list.as_mut_ptr().cast(), list.len()) };
-    list.truncate(usize::try_from(length).unwrap_or(0));
-    list.split(|&byte| byte == 0)
+    let said = unsafe { flistxattr(file.as_raw_fd(), list.as_mut_ptr().cast(), list.len()) };
+    list.truncate(had(said)?);
+    Ok(list
+        .split(|&byte| byte == 0)
         .filter(|name| !name.is_empty())
         .filter_map(|name| CString::new(name).ok())
-        .collect()
+        .collect())
 }
 
 fn copy_attribute(new: &File, old: &File, name: &CStr) -> io::Result<()> {
