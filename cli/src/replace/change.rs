@@ -104,8 +104,7 @@ impl Change<'_> {
         sync_folder(&self.place.path)
     }
 
-    /// Nobody else has replaced the file, or written into it, since it was read. Programs that know
-    /// nothing of the lock can do so.
+    /// Nobody else has replaced the file, or written into it, since it was read.
     fn untouched(&self) -> Result<(), Problem> {
         let mark = |of: &Metadata| {
             (
@@ -115,9 +114,7 @@ impl Change<'_> {
         };
         match fs::symlink_metadata(&self.place.path) {
             Ok(now) if mark(&now) == mark(self.was) => Ok(()),
-            _ => Err(self
-                .place
-                .about("another program changed this file while the rule was run, so nothing was changed; run it again.")),
+            _ => Err(self.place.overtaken()),
         }
     }
 

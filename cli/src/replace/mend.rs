@@ -24,6 +24,9 @@ pub fn mend(place: &Place, old: &File, options: &Options) -> Result<Vec<String>,
         )
     };
     if let Some(left) = left(place).map_err(cannot)? {
+        if left.hidden {
+            notes.push(HIDDEN.to_string());
+        }
         if let Some(record) = &left.record {
             let changed = place.read(old)? == record.file;
             if changed && left.trusted(options) {
@@ -42,28 +45,36 @@ pub fn mend(place: &Place, old: &File, options: &Options) -> Result<Vec<String>,
 
 struct Left {
     owner: u32,
-    /// None where it was not written to its end.
+    /// None where it was not written to its end, or cannot be read.
     record: Option<Record>,
+    /// It has content, and the caller may not read it.
+    hidden: bool,
 }
 
 fn left(place: &Place) -> io::Result<Option<Left>> {
+    let there = match fs::symlink_metadata(&place.record) {
+        Err(wrong) if wrong.kind() == ErrorKind::NotFound => return Ok(None),
+        there => there?,
+    };
+    let mut left = Left {
+        owner: there.uid(),
+        record: None,
+        hidden: false,
+    };
     let opened = OpenOptions::new()
         .read(true)
         .custom_flags(NO_FOLLOW | NO_WAIT)
         .open(&place.record);
-    let mut file = match opened {
-        Err(wrong) if wrong.kind() == ErrorKind::NotFound => return Ok(None),
-        opened => opened?,
-    };
-    let there = file.metadata()?;
-    let mut bytes = Vec::new();
-    if there.is_file() {
-        file.by_ref().take(4 * MOST).read_to_end(&mut bytes)?;
+    match opened {
+        Ok(file) if there.is_file() => {
+            let mut bytes = Vec::new();
+            file.take(4 * MOST).read_to_end(&mut bytes)?;
+            left.record = Record::read(&bytes);
+        }
+        Err(wrong) if wrong.kind() == ErrorKind::PermissionDenied => left.hidden = there.len() > 0,
+        opened => drop(opened?),
     }
-    Ok(Some(Left {
-        owner: there.uid(),
-        record: Record::read(&bytes),
-    }))
+    Ok(Some(left))
 }
 
 impl Left {
@@ -82,6 +93,9 @@ impl Left {
 const OTHERWISE: &str = "the file was changed since by other means";
 const REWRITTEN: &str = "the log was changed since by other means";
 const FOREIGN: &str = "it was another user's, for a log that this run was not told to write";
+
+const HIDDEN: &str =
+    "another user's run was stopped, and what it left cannot be read: its log may lack its step.";
 
 fn lacking(record: &Record, because: &str) -> String {
     format!(

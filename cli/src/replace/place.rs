@@ -152,22 +152,39 @@ impl Place<'_> {
     /// Opens the file, before there is anything beside it, and says what it is.
     pub fn look(&self) -> Result<Metadata, Problem> {
         let file = self.open().map_err(|wrong| self.not_opened(&wrong))?;
-        self.alone(&file)
+        self.single(&file)
     }
 
-    /// A regular file with one name: a rename would part it from its other names.
+    /// The file that is held, with its one name.
     pub fn alone(&self, file: &File) -> Result<Metadata, Problem> {
+        let there = self.single(file)?;
+        if there.nlink() == 0 {
+            return Err(self.overtaken());
+        }
+        Ok(there)
+    }
+
+    /// A regular file with no name but this: a rename would part it from its other names.
+    fn single(&self, file: &File) -> Result<Metadata, Problem> {
         let there = file
             .metadata()
             .map_err(|wrong| self.failed("it cannot be read", &wrong))?;
         self.regular(&there)?;
         let names = there.nlink();
-        if names == 1 {
+        if names <= 1 {
             return Ok(there);
         }
         Err(self.about(format!(
-            "this file has {names} names (hard links), and a change would reach one of them alone; copy it, and work on the copy."
+            "this file has {names} names (hard links), and a change would reach one of them alone; \
+             copy it, and work on the copy."
         )))
+    }
+
+    /// Programs that know nothing of the lock can replace the file, or write into it, at any time.
+    pub fn overtaken(&self) -> Problem {
+        self.about(
+            "another program changed this file meanwhile, so nothing was changed; run it again.",
+        )
     }
 
     /// The file, held.
