@@ -14,6 +14,7 @@ pub mod replay;
 pub mod report;
 pub mod scene;
 pub mod second;
+pub mod stack;
 pub mod stored;
 pub mod table;
 pub mod traced;
