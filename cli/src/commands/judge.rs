@@ -4,7 +4,9 @@ use super::{Answer, Command, View, FORCE, GOOD, LEAK, NAMES, REFUSED};
 use crate::arguments::{Arguments, Choice};
 use crate::failure::Failure;
 use crate::input::{self, Content, Input};
+use crate::picture;
 use crate::replace;
+use crate::report;
 use crate::verdict::{self, json, text, Ruling, Verdict};
 use std::ffi::OsStr;
 use std::path::Path;
@@ -113,7 +115,14 @@ fn outputs(
         };
         outputs.push(("--trace", verdict.trace.clone()));
     }
-    let _ = (input, content);
+    if arguments.has("--svg") {
+        let svg = picture::svg(&input.path, content, verdicts);
+        outputs.push(("--svg", svg.into_bytes()));
+    }
+    if arguments.has("--report") {
+        let page = report::page(input, content, verdicts);
+        outputs.push(("--report", page.into_bytes()));
+    }
     Ok(outputs)
 }
 

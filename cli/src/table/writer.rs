@@ -95,23 +95,23 @@ fn filled(begin: &str, items: &[String]) -> Vec<String> {
     lines
 }
 
-/// A rule in one line, or with conditions and steps in lines of their own.
-fn rule_lines(rule: &Rule, rule_words: &RuleWords, words: &Words) -> Vec<String> {
-    let blanks: Vec<String> = rule_words.blanks.iter().map(|b| written(b)).collect();
-    let head = format!(
-        "rule {} ({}):",
-        written(&rule_words.rule),
-        blanks.join(", ")
-    );
-    let (conditions, steps) = rule_parts(rule, &blanks, words);
+/// A rule in one line.
+pub fn rule_line(rule: &Rule, rule_words: &RuleWords, words: &Words) -> String {
+    let (head, conditions, steps) = rule_parts(rule, rule_words, words);
     let tests = match conditions.as_slice() {
         [] => String::new(),
         all => format!(" if {}", all.join(" and ")),
     };
-    let line = format!("{head}{tests} {}", steps.join("; "));
+    format!("{head}{tests} {}", steps.join("; "))
+}
+
+/// A rule in one line, or with conditions and steps in lines of their own.
+fn rule_lines(rule: &Rule, rule_words: &RuleWords, words: &Words) -> Vec<String> {
+    let line = rule_line(rule, rule_words, words);
     if line.chars().count() <= LINE {
         return vec![line];
     }
+    let (head, conditions, steps) = rule_parts(rule, rule_words, words);
     let mut lines = vec![head];
     for (i, condition) in conditions.iter().enumerate() {
         let begin = if i == 0 { "if" } else { "and" };
@@ -124,13 +124,24 @@ fn rule_lines(rule: &Rule, rule_words: &RuleWords, words: &Words) -> Vec<String>
     lines
 }
 
-/// The conditions and the steps of a rule as text, with these words for its blanks.
-pub fn rule_parts(rule: &Rule, blanks: &[String], words: &Words) -> (Vec<String>, Vec<String>) {
+/// What a rule begins with, its conditions and its steps.
+fn rule_parts(
+    rule: &Rule,
+    rule_words: &RuleWords,
+    words: &Words,
+) -> (String, Vec<String>, Vec<String>) {
+    let blanks: Vec<String> = rule_words.blanks.iter().map(|b| written(b)).collect();
+    let head = format!(
+        "rule {} ({}):",
+        written(&rule_words.rule),
+        blanks.join(", ")
+    );
     let conditions = rule.conditions.iter();
     let steps = rule.steps.iter();
     (
-        conditions.map(|c| condition(c, blanks, words)).collect(),
-        steps.map(|step| operation(step, blanks, words)).collect(),
+        head,
+        conditions.map(|c| condition(c, &blanks, words)).collect(),
+        steps.map(|step| operation(step, &blanks, words)).collect(),
     )
 }
 
