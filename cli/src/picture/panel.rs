@@ -1,0 +1,102 @@
+//! A panel of a picture: a verdict, its matrix and its steps.
+
+use super::canvas::{measure, Canvas};
+use super::layout::{DISC, LINE, PAD};
+use super::matrix::{matrix, Aim};
+use crate::input::Content;
+use crate::story;
+use crate::verdict::{text, Leak, Ruling, Verdict};
+
+/// Steps that are listed; the printed answer has all.
+const MOST_LISTED: usize = 40;
+
+/// Draws a verdict. `whole`: with the verdict in words and the list of steps, which a page has beside it.
+pub fn panel(content: &Content, verdict: &Verdict, whole: bool) -> Canvas {
+    let mut canvas = Canvas::new(2 * PAD, PAD);
+    if whole {
+        head(&mut canvas, content, verdict);
+    }
+    let (steps, aim) = match &verdict.ruling {
+        Ruling::Unsafe(leak) => (leak.steps.as_slice(), Aim::Leak(leak.held)),
+        Ruling::Safe(cells) => (&[][..], Aim::Held(usize::from(verdict.right), cells)),
+        Ruling::Refused(_) => (&[][..], Aim::Nothing),
+    };
+    let (drawn, part) = matrix(content, steps, &aim);
+    canvas.place(PAD, canvas.height, &drawn);
+    canvas.height += drawn.height + PAD;
+    canvas.widen(drawn.width);
+    if part {
+        canvas.say("quiet", "only names that take part in the steps are shown");
+    }
+    if let (Ruling::Unsafe(leak), true) = (&verdict.ruling, whole) {
+        list(&mut canvas, content, leak);
+    }
+    canvas
+}
+
+fn head(canvas: &mut Canvas, content: &Content, verdict: &Verdict) {
+    let right = content.words.right(usize::from(verdict.right));
+    let (class, word) = match verdict.ruling {
+        Ruling::Safe(_) => ("good", "SAFE"),
+        Ruling::Unsafe(_) => ("bad", "UNSAFE"),
+        Ruling::Refused(_) => ("warn", "REFUSED"),
+    };
+    let y = canvas.height + 16;
+    let summary = text::summary(content, verdict);
+    let summary = summary.trim_end_matches(':');
+    let coloured = format!("head {class}");
+    let texts = [
+        ("head", right.as_str()),
+        (&coloured, word),
+        ("quiet", summary),
+    ];
+    canvas.texts(PAD, y, &texts);
+    let wide = measure(&right, 15) + measure(word, 15) + measure(summary, 13);
+    canvas.widen(PAD + wide);
+    canvas.height = y + PAD;
+}
+
+fn list(canvas: &mut Canvas, content: &Content, leak: &Leak) {
+    let words = &content.words;
+    canvas.height += PAD / 2;
+    for (i, done) in leak.steps.iter().take(MOST_LISTED).enumerate() {
+        let last = i + 1 == leak.steps.len();
+        let y = canvas.height + 8;
+        canvas.count(PAD + 10, y - 4, if last { "dot-bad" } else { "dot" }, i + 1);
+        let call = story::call(words, done.step);
+        let sentence = story::sentence(words, &done.acts);
+        canvas.texts(PAD + DISC + 4, y, &[("name", &call), ("", &sentence)]);
+        canvas.widen(PAD + DISC + measure(&call, 13) + measure(&sentence, 13));
+        canvas.height += LINE;
+    }
+    let more = leak.steps.len().saturating_sub(MOST_LISTED);
+    if more > 0 {
+        canvas.say(
+            "quiet",
+            &format!("and {more} steps more, which the printed answer has"),
+        );
+    }
+    canvas.say("bad", &text::outcome(words, leak));
+}
+
+impl Canvas {
+    fn widen(&mut self, to: usize) {
+        self.width = self.width.max(to + 2 * PAD);
+    }
+
+    /// A line of text below what is there.
+    fn say(&mut self, class: &str, text: &str) {
+        self.text(PAD, self.height + 8, class, text);
+        self.widen(PAD + measure(text, 13));
+        self.height += LINE;
+    }
+}
+
+/// A drawing on a card of at least this width.
+pub fn framed(inner: &Canvas, width: usize) -> Canvas {
+    let width = width.max(inner.width);
+    let mut outer = Canvas::new(width + 2, inner.height + 2);
+    outer.rect((1, 1), (width, inner.height), "card");
+    outer.place(1, 1, inner);
+    outer
+}
