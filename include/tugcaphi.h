@@ -51,11 +51,11 @@ extern "C" {
 #define TUGCAPHI_BUFFER 39700
 
 /*
- * Bytes of stack that are enough for each call. This is measured and not proved: access_check used 5,984 bytes, access_run
- * 12,320, access_replay 12,144, access_judge 23,408. Each ran in a thread whose stack of 1 MiB was painted with a pattern
- * before, and what had lost its paint afterwards was counted, less what an idle thread uses; on all files of the benchmark and
- * 1,500 generated ones, for all rights. The calls hold no arrays but of fixed size and recur at most once for each blank of a
- * rule, so the files made no difference. The tests measure again, and fail above this number.
+ * Bytes of stack that are enough for each call. This is measured and not proved: access_check used 6,000 bytes, access_run and
+ * access_replay 12,400, access_judge 23,500. Each ran in a thread whose stack of 1 MiB was painted with a pattern before, and
+ * what had lost its paint afterwards was counted, less what an idle thread uses; on all files of the benchmark and 1,500
+ * generated ones, for all rights. The files made no difference: the calls hold arrays of fixed size alone, and recur at most
+ * once for each blank of a rule. The tests measure it again, and fail above this number.
  */
 #define TUGCAPHI_STACK 32768
 

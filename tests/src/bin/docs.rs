@@ -40,7 +40,7 @@ fn listed(listing: &str) -> Result<Vec<u8>, String> {
         let words: Vec<&str> = rest.split(' ').collect();
         let byte = |word: &str| u8::from_str_radix(word, 16).map_err(|_| about("no byte"));
         if let [value, "x", times] = words.as_slice() {
-            let times = times.parse().map_err(|_| about("no number"))?;
+            let times: usize = times.parse().map_err(|_| about("no number"))?;
             bytes.resize(bytes.len() + times, byte(value)?);
             continue;
         }
@@ -223,12 +223,9 @@ fn stack(group: &mut Group, random: &mut Random) {
             _ => turbulent(random),
         };
         let file = draft.file();
-        seen(0, used(|| drop(check::check(&file))));
+        seen(0, used(|| _ = check::check(&file)));
         let mut changed = file.clone();
-        seen(
-            1,
-            used(|| drop(run::run(&mut changed, 0, [0, 1, 255, 255]))),
-        );
+        seen(1, used(|| _ = run::run(&mut changed, 0, [0, 1, 255, 255])));
         for right in 0..draft.rights {
             let mut steps = 0;
             seen(
@@ -236,7 +233,7 @@ fn stack(group: &mut Group, random: &mut Random) {
                 used(|| steps = judge::judge(&file, right, &mut buffer).1),
             );
             let trace = &buffer[..5 * steps as usize];
-            seen(2, used(|| drop(replay::replay(&file, trace, right))));
+            seen(2, used(|| _ = replay::replay(&file, trace, right)));
         }
         group.inputs += 1;
     }
