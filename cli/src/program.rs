@@ -65,10 +65,10 @@ fn carry_out(command: &Command, words: Vec<OsString>, json: bool) -> u8 {
 
 fn tell(answer: &Answer, command: &'static str, json: bool) -> u8 {
     for note in &answer.notes {
-        eprintln!("note: {note}");
+        complain(&format!("note: {note}\n"));
     }
     for failure in &answer.failures {
-        eprint!("{}", failure.shown(Style::of(&io::stderr())));
+        complain(&failure.shown(Style::of(&io::stderr())));
     }
     let status = match answer.failures.is_empty() {
         true => answer.status,
@@ -94,7 +94,7 @@ fn envelope(command: &str, status: u8) -> Vec<(&'static str, Json)> {
 
 /// Says on standard error what went wrong and what to do; other programs get it on standard output too.
 fn fail(failure: &Failure, command: &str, json: bool) -> u8 {
-    eprint!("{}", failure.shown(Style::of(&io::stderr())));
+    complain(&failure.shown(Style::of(&io::stderr())));
     if json {
         let mut fields = envelope(command, FAILED);
         fields.push(("error", failure.json()));
@@ -108,11 +108,18 @@ fn print(bytes: &[u8]) -> u8 {
     let mut out = io::stdout().lock();
     match out.write_all(bytes).and_then(|()| out.flush()) {
         Err(wrong) if wrong.kind() != ErrorKind::BrokenPipe => {
-            eprintln!("error: standard output: {wrong}");
+            complain(&format!(
+                "error: standard output cannot be written: {wrong}\n"
+            ));
             FAILED
         }
         _ => 0,
     }
+}
+
+/// Standard error that takes no more cannot be complained about.
+fn complain(text: &str) {
+    let _ = io::stderr().write_all(text.as_bytes());
 }
 
 fn none() -> Failure {

@@ -22,11 +22,24 @@ impl BadFile {
         }
     }
 
-    /// The lines after the file's name.
-    pub fn lines(&self, style: Style) -> String {
-        let mut text = headline(self.refusal, style);
+    /// The refusal, and below it file and place.
+    pub fn lines(&self, path: &str, style: Style) -> String {
+        headline(self.refusal, style) + &format!("  file     {path}\n") + &self.details()
+    }
+
+    /// The refusal in a line that begins with the file.
+    pub fn listed(&self, path: &str, style: Style) -> String {
+        format!(
+            "{path}: {}{}",
+            headline(self.refusal, style),
+            self.details()
+        )
+    }
+
+    fn details(&self) -> String {
+        let mut text = String::new();
         if let Some(place) = &self.place {
-            text += &format!("  at byte {}, {}\n", place.offset, place.section);
+            text += &format!("  place    byte {}, {}\n", place.offset, place.section);
             text += &format!("  found    {}\n", place.found);
             text += &format!("  allowed  {}\n", place.allowed);
         }

@@ -67,7 +67,7 @@ fn one(input: &Input, view: &View) -> (u8, String, Json) {
             let bad = BadFile::new(&input.file, *refusal);
             json.push(("answer", "refused".into()));
             json.extend(bad.json());
-            let text = format!("{}: {}", input.path, bad.lines(view.style));
+            let text = bad.listed(&input.path, view.style);
             (REFUSED, text, Json::Object(json))
         }
     }

@@ -114,7 +114,7 @@ fn refused(file: &[u8], refusal: u8, path: &OsStr, view: &View) -> Answer {
     json.extend(bad.json());
     Answer {
         status: REFUSED,
-        text: format!("{}: {}", input::shown(path), bad.lines(view.style)).into_bytes(),
+        text: bad.lines(&input::shown(path), view.style).into_bytes(),
         json,
         ..Answer::default()
     }

@@ -145,7 +145,7 @@ fn told(came: Came, arguments: &Arguments, view: &View) -> Answer {
         Came::BadFile(bad) => {
             json.push(("answer", "refused".into()));
             json.extend(bad.json());
-            let text = format!("{path}: {}", bad.lines(view.style));
+            let text = bad.lines(&path, view.style);
             answer(REFUSED, text, json)
         }
         Came::Refused(words, step, refusal, reason) => {

@@ -45,7 +45,7 @@ pub fn refused(input: &Input, refusal: u8, view: &View) -> Answer {
     json.extend(bad.json());
     Answer {
         status: REFUSED,
-        text: format!("{}: {}", input.path, bad.lines(view.style)).into_bytes(),
+        text: bad.lines(&input.path, view.style).into_bytes(),
         json,
         ..Answer::default()
     }
