@@ -169,10 +169,12 @@ fn held(scene: &Scene, group: &mut Group) {
     let waits = |group: &mut Group, release: &dyn Fn()| {
         thread::scope(|scope| {
             let run = scope.spawn(|| said(&mut scene.run(0, &[])));
-            thread::sleep(Duration::from_millis(200));
+            thread::sleep(Duration::from_millis(1_500));
             group.demand(!run.is_finished(), || "it did not wait".to_string());
             release();
             let answer = run.join().expect("a thread of ours");
+            let told = answer.err.contains("this one waits for its end");
+            group.demand(told, || format!("it did not say that it waits: {answer:?}"));
             let wanted = after(&table(), 0);
             scene.stands(group, &wanted, b"", "after waiting", &answer);
             group.demand(answer.done(), || format!("after waiting: {answer:?}"));
