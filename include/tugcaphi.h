@@ -5,9 +5,11 @@
  * answers and leaves is proved, for every input: docs/PROVED.md says what that means and what it rests on. docs/FORMAT.md has
  * the house file byte by byte, docs/REFUSALS.md every number by which a call is refused.
  *
- * Link with libexports.a, which needs memcpy and memset and nothing else:
+ * The library needs memcpy and memset of C's and nothing else. In the repository it is target/staticlib/libexports.a, and
+ * `install` puts it into a prefix as libtugcaphi.a:
  *
  *     cc example.c -I include -L target/staticlib -l exports
+ *     cc example.c -I PREFIX/include -L PREFIX/lib -l tugcaphi
  *
  * What every call promises
  *
@@ -38,11 +40,12 @@ extern "C" {
 #endif
 
 /* The answers that are no refusals. */
-#define TUGCAPHI_DONE 0     /* access_check: accepted; access_run: the rule was run */
+#define TUGCAPHI_ACCEPTED 0 /* access_check */
+#define TUGCAPHI_DONE 0     /* access_run */
 #define TUGCAPHI_NO_LEAK 0  /* access_replay */
+#define TUGCAPHI_LEAK 255
 #define TUGCAPHI_SAFE 0     /* access_judge */
-#define TUGCAPHI_LEAK 255   /* access_replay */
-#define TUGCAPHI_UNSAFE 255 /* access_judge */
+#define TUGCAPHI_UNSAFE 255
 
 /* A step of a trace: the rule's number and four names, 255 in the positions that the rule does not use. */
 #define TUGCAPHI_STEP 5
