@@ -2,7 +2,7 @@
 //! anywhere else, and every element is closed, so that any XML reader can read it too.
 
 use crate::house::House;
-use crate::input::{Content, Input};
+use crate::input::Content;
 use crate::picture::canvas::escaped;
 use crate::picture::panel;
 use crate::story;
@@ -30,9 +30,9 @@ ol{margin:.5rem 0;padding-left:2rem}li{margin:.25rem 0}li b{font-weight:600}\
 @media print{body{background:#fff}section{break-inside:avoid}}";
 
 /// The page of a judgement.
-pub fn page(input: &Input, content: &Content, verdicts: &[Verdict]) -> String {
+pub fn page(title: &str, content: &Content, verdicts: &[Verdict]) -> String {
     let Content { house, words } = content;
-    let title = escaped(&input.path);
+    let title = escaped(title);
     let version = env!("CARGO_PKG_VERSION");
     let mut page = format!(
         "<!doctype html>\n<html lang=\"en\">\n<head>\n<meta charset=\"utf-8\"/>\n\

@@ -120,7 +120,7 @@ fn outputs(
         outputs.push(("--svg", svg.into_bytes()));
     }
     if arguments.has("--report") {
-        let page = report::page(input, content, verdicts);
+        let page = report::page(&input.path, content, verdicts);
         outputs.push(("--report", page.into_bytes()));
     }
     Ok(outputs)
