@@ -48,7 +48,7 @@ int main(void)
     uint8_t answer, before;
 
     table(file);
-    if ((answer = access_check(file, LENGTH)) != TUGCAPHI_DONE) {
+    if ((answer = access_check(file, LENGTH)) != TUGCAPHI_ACCEPTED) {
         printf("refused %d\n", answer);
         return 2;
     }

@@ -5,9 +5,11 @@
  * answers and leaves is proved, for every input: docs/PROVED.md says what that means and what it rests on. docs/FORMAT.md has
  * the house file byte by byte, docs/REFUSALS.md every number by which a call is refused.
  *
- * Link with libexports.a, which needs memcpy and memset and nothing else:
+ * The library needs memcpy and memset of C's and nothing else. In the repository it is target/staticlib/libexports.a, and
+ * `install` puts it into a prefix as libtugcaphi.a:
  *
  *     cc example.c -I include -L target/staticlib -l exports
+ *     cc example.c -I PREFIX/include -L PREFIX/lib -l tugcaphi
  *
  * What every call promises
  *
@@ -38,11 +40,12 @@ extern "C" {
 #endif
 
 /* The answers that are no refusals. */
-#define TUGCAPHI_DONE 0     /* access_check: accepted; access_run: the rule was run */
+#define TUGCAPHI_ACCEPTED 0 /* access_check */
+#define TUGCAPHI_DONE 0     /* access_run */
 #define TUGCAPHI_NO_LEAK 0  /* access_replay */
+#define TUGCAPHI_LEAK 255
 #define TUGCAPHI_SAFE 0     /* access_judge */
-#define TUGCAPHI_LEAK 255   /* access_replay */
-#define TUGCAPHI_UNSAFE 255 /* access_judge */
+#define TUGCAPHI_UNSAFE 255
 
 /* A step of a trace: the rule's number and four names, 255 in the positions that the rule does not use. */
 #define TUGCAPHI_STEP 5
@@ -51,11 +54,11 @@ extern "C" {
 #define TUGCAPHI_BUFFER 39700
 
 /*
- * Bytes of stack that are enough for each call. This is measured and not proved: access_check used 5,984 bytes, access_run
- * 12,320, access_replay 12,144, access_judge 23,408. Each ran in a thread whose stack of 1 MiB was painted with a pattern
- * before, and what had lost its paint afterwards was counted, less what an idle thread uses; on all files of the benchmark and
- * 1,500 generated ones, for all rights. The calls hold no arrays but of fixed size and recur at most once for each blank of a
- * rule, so the files made no difference. The tests measure again, and fail above this number.
+ * Bytes of stack that are enough for each call. This is measured and not proved: access_check used 6,000 bytes, access_run and
+ * access_replay 12,400, access_judge 23,500. Each ran in a thread whose stack of 1 MiB was painted with a pattern before, and
+ * what had lost its paint afterwards was counted, less what an idle thread uses; on all files of the benchmark and 1,500
+ * generated ones, for all rights. The files made no difference: the calls hold arrays of fixed size alone, and recur at most
+ * once for each blank of a rule. The tests measure it again, and fail above this number.
  */
 #define TUGCAPHI_STACK 32768
 

@@ -3,6 +3,7 @@
 
 use crate::generate::{rule, Draft, ENTER};
 use crate::machine::run_file;
+use crate::report::{Group, Report};
 use std::env;
 use std::fs;
 use std::os::unix::fs::{MetadataExt, PermissionsExt};
@@ -178,6 +179,26 @@ impl Scene {
                 .or_else(|_| fs::remove_dir_all(&path))
                 .expect("the folder can be cleared");
         }
+    }
+
+    /// The program is there, which is counted; else nothing can be tested.
+    pub fn ready(&self, report: &mut Report) -> bool {
+        let there = self.program.is_file();
+        report.group("the program is there", 1, |group| {
+            group.input(there, || format!("no file {}", self.program.display()));
+        });
+        there
+    }
+
+    /// File, log and folder are as wanted.
+    pub fn stands(&self, group: &mut Group, file: &[u8], log: &[u8], about: &str, said: &Said) {
+        let alike = self.read(FILE) == file;
+        let logged = self.read(LOG) == log;
+        let names = self.names();
+        let left = names.iter().any(|name| name.contains("tugcaphi"));
+        group.input(alike && logged && !left, || {
+            format!("{about}: file as wanted {alike}, log {logged}, names {names:?}, {said:?}")
+        });
     }
 
     /// The file anew, of mode 600, and nothing else.

@@ -2,10 +2,11 @@
 //! ends.
 
 use std::fs::{self, File, Metadata, OpenOptions, TryLockError};
-use std::io::{self, ErrorKind};
+use std::io::{self, ErrorKind, Write};
 use std::os::unix::fs::{MetadataExt, OpenOptionsExt};
 use std::path::{Path, PathBuf};
-use std::thread::sleep;
+use std::sync::mpsc::{self, RecvTimeoutError, Sender};
+use std::thread;
 use std::time::Duration;
 
 /// Flags of `open` as x86-64 has them, for which the proved library is built.
@@ -52,12 +53,13 @@ pub fn hold(path: &Path, wait: bool, open: impl Fn() -> io::Result<File>) -> Res
 }
 
 fn lock(file: &File, wait: bool) -> Result<(), NotHeld> {
-    if !wait {
-        return file.try_lock().map_err(|refused| match refused {
-            TryLockError::WouldBlock => NotHeld::Taken,
-            TryLockError::Error(wrong) => NotHeld::Failed(wrong),
-        });
+    match file.try_lock() {
+        Ok(()) => return Ok(()),
+        Err(TryLockError::WouldBlock) if wait => {}
+        Err(TryLockError::WouldBlock) => return Err(NotHeld::Taken),
+        Err(TryLockError::Error(wrong)) => return Err(NotHeld::Failed(wrong)),
     }
+    let _waiting = say_that_it_waits();
     loop {
         match file.lock() {
             Err(wrong) if wrong.kind() == ErrorKind::Interrupted => {}
@@ -65,6 +67,21 @@ fn lock(file: &File, wait: bool) -> Result<(), NotHeld> {
         }
     }
 }
+
+/// Unless what is handed back is dropped before. A run that was suspended holds its lock, and
+/// whoever waits for it should know what for.
+fn say_that_it_waits() -> Sender<()> {
+    let (waiting, over) = mpsc::channel();
+    let _ = thread::Builder::new().spawn(move || {
+        if over.recv_timeout(Duration::from_secs(1)) == Err(RecvTimeoutError::Timeout) {
+            let _ = io::stderr().write_all(WAITING);
+        }
+    });
+    waiting
+}
+
+const WAITING: &[u8] = b"note: another run is at work on this file; this one waits for its end, \
+    which --no-wait would not.\n";
 
 /// The lock file, held. Its holder removes it at the end.
 pub struct Lock {
@@ -115,7 +132,7 @@ fn open_lock(path: &Path, mode: u32, liken: &impl Fn(&File)) -> io::Result<File>
             Err(wrong) if wrong.kind() == ErrorKind::NotFound => {}
             Err(wrong) if wrong.kind() == ErrorKind::PermissionDenied => {
                 tries += 1;
-                sleep(Duration::from_millis(10));
+                thread::sleep(Duration::from_millis(10));
                 // One that was left without its mode. Should its run be at work still, it holds the
                 // file itself.
                 if tries >= TRIES {

@@ -1,7 +1,8 @@
 //! The pages and the header that users go by, held to the library: the worked
 //! example of docs/FORMAT.md, the table of docs/REFUSALS.md against the
 //! program's own, include/tugcaphi.h with its example in C, compiled and run,
-//! and the stack that the calls use. Argument: the seed.
+//! the stack that the calls use, `install`, and that every page that a page
+//! leads to is there. Argument: the seed.
 
 use reference::generate::*;
 use reference::random::Random;
@@ -40,7 +41,7 @@ fn listed(listing: &str) -> Result<Vec<u8>, String> {
         let words: Vec<&str> = rest.split(' ').collect();
         let byte = |word: &str| u8::from_str_radix(word, 16).map_err(|_| about("no byte"));
         if let [value, "x", times] = words.as_slice() {
-            let times = times.parse().map_err(|_| about("no number"))?;
+            let times: usize = times.parse().map_err(|_| about("no number"))?;
             bytes.resize(bytes.len() + times, byte(value)?);
             continue;
         }
@@ -201,6 +202,33 @@ fn header(group: &mut Group) {
     group.input(good, || format!("printed {printed:?}, wanted {wanted:?}"));
 }
 
+/// `install` puts all three where a compiler finds them, and refuses what it
+/// does not know.
+fn install(group: &mut Group) {
+    let scene = scene::Scene::new("install");
+    let prefix = scene.path("a prefix");
+    let installed = Command::new("bash").arg("../install").arg(&prefix).output();
+    let good = installed.is_ok_and(|output| output.status.success());
+    group.input(good, || "it failed".to_string());
+    let version = Command::new(prefix.join("bin/tugcaphi"))
+        .arg("--version")
+        .output();
+    let good = version.is_ok_and(|output| output.stdout.starts_with(b"tugcaphi "));
+    group.input(good, || "the program does not start".to_string());
+    let program = scene.path("example").to_string_lossy().into_owned();
+    let within = |folder: &str| prefix.join(folder).to_string_lossy().into_owned();
+    let (include, library) = (within("include"), within("lib"));
+    // Away from the header that lies beside it.
+    let example = scene.path("example.c").to_string_lossy().into_owned();
+    fs::copy("../include/example.c", &example).expect("an example of ours");
+    let words = [&example, "-I", &include, "-L", &library];
+    let words = [&words[..], &["-l", "tugcaphi", "-o", &program]].concat();
+    compiled(group, "gcc", &words, "the example");
+    let unknown = Command::new("bash").args(["../install", "--help"]).output();
+    let good = unknown.is_ok_and(|output| output.status.code() == Some(2));
+    group.input(good, || "an option was taken for a folder".to_string());
+}
+
 /// A number that the header defines.
 fn defined(name: &str) -> usize {
     let text = page("include/tugcaphi.h");
@@ -223,12 +251,9 @@ fn stack(group: &mut Group, random: &mut Random) {
             _ => turbulent(random),
         };
         let file = draft.file();
-        seen(0, used(|| drop(check::check(&file))));
+        seen(0, used(|| _ = check::check(&file)));
         let mut changed = file.clone();
-        seen(
-            1,
-            used(|| drop(run::run(&mut changed, 0, [0, 1, 255, 255]))),
-        );
+        seen(1, used(|| _ = run::run(&mut changed, 0, [0, 1, 255, 255])));
         for right in 0..draft.rights {
             let mut steps = 0;
             seen(
@@ -236,7 +261,7 @@ fn stack(group: &mut Group, random: &mut Random) {
                 used(|| steps = judge::judge(&file, right, &mut buffer).1),
             );
             let trace = &buffer[..5 * steps as usize];
-            seen(2, used(|| drop(replay::replay(&file, trace, right))));
+            seen(2, used(|| _ = replay::replay(&file, trace, right)));
         }
         group.inputs += 1;
     }
@@ -264,6 +289,27 @@ fn buffer_length(group: &mut Group) {
     }
 }
 
+/// Every link of a page to a file of the repository leads to one.
+fn links(group: &mut Group) {
+    let mut pages = vec![PathBuf::from("../README.md")];
+    for folder in ["docs", "tables", "bench"] {
+        let entries = fs::read_dir(Path::new("..").join(folder)).expect("a folder of ours");
+        pages.extend(entries.map(|entry| entry.expect("an entry").path()));
+    }
+    pages.retain(|page| page.extension().is_some_and(|ending| ending == "md"));
+    for page in pages {
+        let text = fs::read_to_string(&page).expect("a page of ours");
+        for part in text.split("](").skip(1) {
+            let to = part.split([')', '#']).next().unwrap_or_default();
+            if to.is_empty() || to.contains("://") {
+                continue;
+            }
+            let there = page.with_file_name(to).exists();
+            group.input(there, || format!("{} leads to {to}", page.display()));
+        }
+    }
+}
+
 fn main() {
     let arguments = Arguments::read("docs");
     let mut random = Random::new(arguments.seed);
@@ -272,6 +318,8 @@ fn main() {
     report.group("docs/REFUSALS.md: the program's words", 19, refusals_page);
     report.group("include/tugcaphi.h and its example", 3, header);
     report.group("include/tugcaphi.h: the buffer", 2, buffer_length);
+    report.group("install", 4, install);
+    report.group("links of the pages", 20, links);
     report.group("include/tugcaphi.h: the stack", 60, |group| {
         stack(group, &mut random)
     });

@@ -1,11 +1,9 @@
-//! Stops `tugcaphi run` at any moment: killed before and behind each of its
-//! system calls and at random, each of its calls failing, another program
-//! writing the file at each moment. Each time the file must be the old one or
-//! the new one, and the next run must leave file and log in step and nothing
-//! else. And the order in which it has its writings on the device.
-//! Argument: the seed.
+//! `tugcaphi run` and `make` stopped at each system call: killed before and
+//! behind it, the call failing, another program writing the file at that moment.
+//! Each time the file must be the old one or the new one, and the next run must
+//! leave file and log in step and nothing else. And the order in which a run has
+//! its writings on the device. Argument: the seed, on which nothing depends.
 
-use reference::random::Random;
 use reference::report::{Arguments, Group, Report};
 use reference::scene::{
     after, said, says_done, step, table, Said, Scene, FILE, LOCK, LOG, NEW, RECORD,
@@ -13,8 +11,6 @@ use reference::scene::{
 use reference::traced::{may_trace, traced, Ended, Stop, Then};
 use std::fs;
 use std::path::Path;
-use std::process::{Command, Stdio};
-use std::time::{Duration, Instant};
 
 /// The effects of the run that is stopped, of the next one, and of others.
 const STOPPED: usize = 700;
@@ -350,115 +346,82 @@ fn order(scene: &Scene, group: &mut Group) {
     );
 }
 
-fn spin(time: Duration) {
-    let start = Instant::now();
-    while start.elapsed() < time {
-        std::hint::spin_loop();
-    }
-}
+/// A table in words, and the house file that `make` makes of it.
+const TEXT: &str = "table 1\nrights own read\nsubjects Ada Ben\nobjects shade\n\
+    cell (Ada, shade): own\nrule lend (a, b, f): if own in (a, f) enter read into (b, f)\n";
 
-fn kill_after(command: &mut Command, time: Duration) -> Said {
-    let mut child = command
-        .stdout(Stdio::piped())
-        .stderr(Stdio::piped())
-        .spawn()
-        .expect("the program can be started");
-    spin(time);
-    let _ = child.kill();
-    Said::of(child.wait_with_output().expect("a child of ours"))
-}
-
-/// Kills runs after a random time, up to twice what a whole one takes. That
-/// changes with what else the machine does, so the time follows what was left.
-/// No next run is put between: each finds what the one before left.
-fn kill_at_random(scene: &Scene, group: &mut Group, random: &mut Random) {
-    let mut file = table();
-    let mut steps = Vec::new();
-    scene.reset(&file);
-    scene.write(LOG, b"");
-    let mut most = Duration::ZERO;
-    for n in 0..5 {
-        let start = Instant::now();
-        let answer = said(&mut scene.run(n, &["--log", LOG]));
-        most = most.max(start.elapsed());
-        group.demand(answer.done(), || format!("a whole run: {answer:?}"));
-        file = after(&file, n);
-        steps.extend(step(n));
-    }
-    let (mut old, mut new, mut mended) = (0, 0, 0);
-    for n in 5..505 {
-        let time = most.mul_f64(random.below(1_000) as f64 / 500.0);
-        let answer = kill_after(&mut scene.run(n, &["--log", LOG]), time);
-        let there = scene.read(FILE);
-        let happened = there == after(&file, n);
-        let good = happened || (there == file && !says_done(&answer.out));
-        group.input(good, || format!("run {n}: {answer:?}"));
-        mended += usize::from(answer.err.contains("is there now"));
-        if happened {
-            new += 1;
-            most = most.mul_f64(0.95).max(Duration::from_micros(200));
-            file = there;
-            steps.extend(step(n));
-        } else {
-            old += 1;
-            most = most.mul_f64(1.05).min(Duration::from_millis(200));
+/// `make` killed at each system call: no file, or the old one, or the new one.
+fn kill_make(scene: &Scene, group: &mut Group, over: bool) {
+    let words: &[&str] = match over {
+        true => &["make", "words", "-o", FILE, "--force"],
+        false => &["make", "words", "-o", FILE],
+    };
+    let set = || {
+        scene.clear();
+        scene.write("words", TEXT.as_bytes());
+        if over {
+            scene.write(FILE, &table());
+            scene.set_mode(FILE, 0o640);
         }
-        // The log may lack the last step, and no other.
-        let log = scene.read(LOG);
-        let whole = log.len() / 5 * 5;
-        let last = steps.len().saturating_sub(5);
-        let good = steps.starts_with(&log[..whole]) && whole >= last;
-        group.demand(good, || format!("run {n}: the log has {} bytes", log.len()));
-    }
-    let answer = said(&mut scene.run(600, &["--log", LOG]));
-    steps.extend(step(600));
-    let names = scene.names();
-    let good = answer.done()
-        && scene.read(FILE) == after(&file, 600)
-        && scene.read(LOG) == steps
-        && names == [FILE, LOG];
-    group.demand(good, || format!("at the end: {answer:?}, {names:?}"));
-    println!("  500 kills: {old} left the old file, {new} the new one; {mended} logs mended");
-    group.demand(old >= 100 && new >= 100, || {
-        format!("too few of one sort: {old}, {new}")
+    };
+    set();
+    let answer = scene.call(words);
+    let made = scene.read(FILE);
+    group.input(answer.status == Some(0) && made.len() == 1_080, || {
+        format!("{answer:?}")
     });
+    for number in 1.. {
+        set();
+        let before = scene.read(FILE);
+        let ended = traced(&mut scene.command(words), |stop| {
+            match stop.number == number {
+                true => Then::Kill,
+                false => Then::GoOn,
+            }
+        });
+        if !ended.expect("the program can be traced").killed {
+            break;
+        }
+        let there = scene.read(FILE);
+        let whole = there == made || (there == before && scene.path(FILE).exists() == over);
+        group.input(whole, || format!("stop {number}: {} bytes", there.len()));
+        let answer = scene.call(&["make", "words", "-o", FILE, "--force"]);
+        let names = scene.names();
+        let good = answer.status == Some(0)
+            && scene.read(FILE) == made
+            && (!over || scene.mode(FILE) == 0o640)
+            && names == [FILE, "words"];
+        group.demand(good, || format!("stop {number}: {names:?}, {answer:?}"));
+    }
 }
 
 fn main() {
-    let arguments = Arguments::read("kills");
-    let mut random = Random::new(arguments.seed);
+    let _ = Arguments::read("kills");
     let mut report = Report::default();
     let scene = Scene::quick("kills");
-    let scene = &scene;
-
-    let there = scene.program.is_file();
-    report.group("the program is there", 1, |group| {
-        group.input(there, || format!("no file {}", scene.program.display()));
-    });
-    if !there {
-        let _ = fs::remove_dir_all(&scene.folder);
-        report.finish();
-    }
-    report.group("killed at random", 500, |group| {
-        kill_at_random(&Scene::new("random-kills"), group, &mut random)
-    });
-    if may_trace() {
-        for way in WAYS {
-            let name = format!("killed at each system call: {way:?}");
-            report.group(&name, 100, |group| kill_at_each(scene, group, way));
-        }
-        for (way, error) in [(Way::Log, IO_ERROR), (Way::Mending, NO_SPACE)] {
-            let name = format!("each system call fails: {way:?}, error {error}");
-            report.group(&name, 50, |group| fail_each(scene, group, way, error));
-        }
-        report.group("another program writes at each system call", 100, |group| {
-            foreign_at_each(scene, group)
-        });
-        report.group("the order of writings", 2, |group| order(scene, group));
-    } else {
+    if !may_trace() {
         println!("each system call: no program may be traced here, left out");
+    } else if scene.ready(&mut report) {
+        groups(&scene, &mut report);
     }
-    // The end of the process runs no destructor.
-    fs::remove_dir_all(&scene.folder).expect("a folder of ours");
+    drop(scene);
     report.finish();
+}
+
+fn groups(scene: &Scene, report: &mut Report) {
+    for way in WAYS {
+        let name = format!("killed at each system call: {way:?}");
+        report.group(&name, 100, |group| kill_at_each(scene, group, way));
+    }
+    for (way, error) in [(Way::Log, IO_ERROR), (Way::Mending, NO_SPACE)] {
+        let name = format!("each system call fails: {way:?}, error {error}");
+        report.group(&name, 50, |group| fail_each(scene, group, way, error));
+    }
+    report.group("another program writes at each system call", 100, |group| {
+        foreign_at_each(scene, group)
+    });
+    report.group("the order of writings", 2, |group| order(scene, group));
+    for (name, over) in [("make killed", false), ("make --force killed", true)] {
+        report.group(name, 50, |group| kill_make(scene, group, over));
+    }
 }
