@@ -1,7 +1,7 @@
-//! The stored cases of the desk program: `NAME.table`, the text of an input,
-//! and `NAME.out`, what is to be printed.
+//! The stored cases of the desk program: `NAME.table` or `NAME.damage`, the text
+//! of an input, and `NAME.out`, what is to be printed.
 
-use crate::table::input;
+use crate::table::{asked, damaged};
 use std::fs;
 use std::path::Path;
 
@@ -23,7 +23,8 @@ pub fn cases(folder: impl AsRef<Path>) -> Result<Vec<Case>, String> {
         let ending = path.extension().and_then(|ending| ending.to_str());
         match ending {
             Some("out") => outputs += 1,
-            Some("table") => {
+            Some(sort @ ("table" | "damage")) => {
+                let input = if sort == "table" { asked } else { damaged };
                 let about = |wrong: String| format!("{}: {wrong}", path.display());
                 let text = fs::read_to_string(&path).map_err(said)?;
                 let output = path.with_extension("out");

@@ -1,20 +1,23 @@
-//! A readable form of the desk program's inputs, a line a fact:
+//! The desk program's inputs as text. An accepted file is a table, as
+//! docs/TABLES.md has it, after a line with the right that is asked for, the
+//! input's first byte:
 //!
 //! ```text
-//! ask 1                        the right, the input's first byte
-//! rights 2
+//! ask 1
+//! table 1
+//! rights r0 r1
+//! ```
+//!
+//! The program's own reader reads it. Damaged inputs, `.damage`, have lines of
+//! their own, of which nothing is checked but their form:
+//!
+//! ```text
+//! ask 1                        the right
+//! rights 2                     how many
 //! subjects 0 1 4-6
 //! objects 2
 //! cell (0,2): 0                rights in a cell; names may be stretches: (0-3,2)
 //! rule (a,b,c): if 0 in (a,c) and 1 in (a,b) enter 1 into (b,c)
-//! ```
-//!
-//! The steps of a rule stand with `;` between them: `delete 0 from (a,b)`,
-//! `create subject a`, `destroy object a` and so on. `#` begins a comment.
-//! For inputs that must be refused nothing is checked, and these lines hold
-//! bytes as they come:
-//!
-//! ```text
 //! kind 3: 7                    the kind of a name
 //! rule bytes: 1 0 1 9          a rule's section
 //! size kinds: 31               a section cut or filled with 0, also `cells`
@@ -22,16 +25,35 @@
 //! size file: 4097              the file cut or filled with 0
 //! ```
 //!
+//! The steps of a rule stand with `;` between them, `#` begins a comment.
 //! Without the line `ask` the input is empty.
 
 use crate::generate::{
     rule, Draft, CREATE_OBJECT, CREATE_SUBJECT, DELETE, DESTROY_OBJECT, DESTROY_SUBJECT, ENTER,
 };
 use std::str::FromStr;
+use tugcaphi::house::encode::encode;
 
-/// The input that a text describes, or the number of the wrong line and what
-/// is wrong with it.
-pub fn input(text: &str) -> Result<Vec<u8>, String> {
+/// The input that a question and a table make.
+pub fn asked(text: &str) -> Result<Vec<u8>, String> {
+    let (ask, table) = text.split_once('\n').unwrap_or((text, ""));
+    let right = ask.strip_prefix("ask ").ok_or("no right asked for")?;
+    let mut input = vec![number(right)?];
+    input.extend(file(table)?);
+    Ok(input)
+}
+
+/// The file of a table.
+pub fn file(text: &str) -> Result<Vec<u8>, String> {
+    match tugcaphi::table::read(text.as_bytes()) {
+        Ok(table) => Ok(encode(&table.house)),
+        Err(mistake) => Err(format!("{mistake:?}")),
+    }
+}
+
+/// The damaged input that a text describes, or the number of the wrong line and
+/// what is wrong with it.
+pub fn damaged(text: &str) -> Result<Vec<u8>, String> {
     let mut table = Table {
         asked: None,
         draft: Draft::empty(1),
@@ -211,7 +233,11 @@ fn name_of(text: &str) -> Result<usize, String> {
 /// One name, or the names from one to another: `4` or `4-6`.
 fn stretch(text: &str) -> Result<std::ops::RangeInclusive<usize>, String> {
     let (first, last) = text.split_once('-').unwrap_or((text, text));
-    Ok(name_of(first)?..=name_of(last)?)
+    let stretch = name_of(first)?..=name_of(last)?;
+    match stretch.is_empty() {
+        true => Err(format!("a stretch with nothing in it: {text}")),
+        false => Ok(stretch),
+    }
 }
 
 fn halves<'a>(text: &'a str, between: &str) -> Result<(&'a str, &'a str), String> {

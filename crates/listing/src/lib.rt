@@ -17,8 +17,8 @@ const STEPS: usize = (Matrix::RIGHTS as usize) * (Matrix::START + 1) * (Matrix::
 // Room for every listing: a first line of at most 12 bytes, and at most 20 a step.
 pub const BYTES: usize = 12 + 20 * STEPS;
 
-// Each of these writes from a place on, and answers the place behind what it wrote. The other programs' answers are written by them too.
-pub fn put(out: &mut [u8], at: usize, s: &[u8]) -> usize
+// Each of these writes from a place on, and answers the place behind what it wrote.
+fn put(out: &mut [u8], at: usize, s: &[u8]) -> usize
     requires { ⌜ at + length (now s) ≤ length (now out) ⌝ }
     ensures { λ r. ⌜ Put (now (out .entry)) at (now (s .entry)) r (now (out .exit)) ⌝ }
 {
@@ -26,7 +26,7 @@ pub fn put(out: &mut [u8], at: usize, s: &[u8]) -> usize
     at + s.len()
 }
 
-pub fn put_byte(out: &mut [u8], at: usize, b: u8) -> usize
+fn put_byte(out: &mut [u8], at: usize, b: u8) -> usize
     requires { ⌜ at < length (now out) ⌝ }
     ensures { λ r. ⌜ Put (now (out .entry)) at (b ∷ []) r (now (out .exit)) ⌝ }
 {
@@ -35,7 +35,7 @@ pub fn put_byte(out: &mut [u8], at: usize, b: u8) -> usize
 }
 
 // A number in decimal: the last digit behind those of a tenth of it.
-pub fn put_decimal(out: &mut [u8], at: usize, n: usize) -> usize
+fn put_decimal(out: &mut [u8], at: usize, n: usize) -> usize
     requires { ⌜ at + length (decimal n) ≤ length (now out) ⌝ }
     ensures { λ r. ⌜ Put (now (out .entry)) at (decimal n) r (now (out .exit)) ⌝ }
 {
@@ -131,7 +131,7 @@ fn put_lines(out: &mut [u8], from: usize, p: Policy, steps: &[u8], n: usize) -> 
 }
 
 // The first line.
-pub fn put_head(out: &mut [u8], word: &[u8], n: usize) -> usize
+fn put_head(out: &mut [u8], word: &[u8], n: usize) -> usize
     requires { ⌜ length (now word) + length (decimal n) < length (now out) ⌝ }
     ensures { λ r. ⌜ Put (now (out .entry)) 0 (head (now (word .entry)) n) r (now (out .exit)) ⌝ }
 {

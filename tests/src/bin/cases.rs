@@ -169,8 +169,7 @@ fn main() {
         let text = std::fs::read_to_string("../tables/vermilion.table");
         match (file, text) {
             (Ok(file), Ok(text)) => {
-                let wanted = table::input(&text).map(|input| input[1..].to_vec());
-                same(group, Ok(file), wanted);
+                same(group, Ok(file), table::file(&text));
             }
             wrong => group.demand(false, || format!("{wrong:?}")),
         }

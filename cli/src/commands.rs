@@ -1,0 +1,112 @@
+//! The commands: what each takes, and what it answers.
+
+pub mod check;
+pub mod judge;
+pub mod make;
+pub mod replay;
+pub mod run;
+pub mod show;
+
+use crate::arguments::{Arguments, Choice};
+use crate::failure::Failure;
+use crate::json::Json;
+use crate::terminal::Style;
+
+/// How an answer is to look.
+pub struct View {
+    pub style: Style,
+    /// The columns of the terminal, if there is one.
+    pub columns: Option<usize>,
+}
+
+/// What a command answers: to people, to programs, and by the exit status.
+#[derive(Default)]
+pub struct Answer {
+    pub status: u8,
+    pub text: Vec<u8>,
+    pub json: Vec<(&'static str, Json)>,
+    /// Said on standard error.
+    pub notes: Vec<String>,
+    /// What went wrong with some of what was asked for.
+    pub failures: Vec<Failure>,
+}
+
+/// The exit statuses that are answers.
+pub const GOOD: u8 = 0;
+pub const LEAK: u8 = 1;
+pub const REFUSED: u8 = 2;
+
+pub struct Command {
+    pub name: &'static str,
+    /// What comes after the command's word.
+    pub usage: &'static str,
+    /// One line.
+    pub summary: &'static str,
+    /// What else there is to know.
+    pub about: &'static str,
+    /// How many words besides options it takes.
+    pub least: usize,
+    pub most: usize,
+    pub options: &'static [Choice],
+    pub run: fn(&Arguments, &View) -> Result<Answer, Failure>,
+}
+
+pub const ALL: [&Command; 6] = [
+    &make::COMMAND,
+    &show::COMMAND,
+    &check::COMMAND,
+    &judge::COMMAND,
+    &run::COMMAND,
+    &replay::COMMAND,
+];
+
+/// Options that every command has.
+const JSON: Choice = Choice {
+    long: "--json",
+    short: None,
+    value: None,
+    help: "the answer as JSON, for other programs (docs/JSON.md)",
+};
+const HELP: Choice = Choice {
+    long: "--help",
+    short: Some("-h"),
+    value: None,
+    help: "this help",
+};
+
+/// Options that several commands have.
+pub const NAMES: Choice = Choice {
+    long: "--names",
+    short: None,
+    value: Some("TABLE"),
+    help: "the words of this table for a house file; its rights and rules must be the file's",
+};
+pub const FORCE: Choice = Choice {
+    long: "--force",
+    short: None,
+    value: None,
+    help: "write over files that are there",
+};
+pub const NO_WAIT: Choice = Choice {
+    long: "--no-wait",
+    short: None,
+    value: None,
+    help: "stop at once if another run is at work on the file, instead of waiting",
+};
+
+impl Command {
+    pub fn choices(&self) -> Vec<&Choice> {
+        self.options.iter().chain([&JSON, &HELP]).collect()
+    }
+
+    /// Whether that many words are as many as the command takes.
+    pub fn count(&self, words: usize) -> Result<(), Failure> {
+        let message = match words {
+            n if n < self.least => "something is missing",
+            n if n > self.most => "there is a word too many",
+            _ => return Ok(()),
+        };
+        let advice = format!("write tugcaphi {} {}", self.name, self.usage);
+        Err(Failure::said(format!("{}: {message}", self.name), advice))
+    }
+}

@@ -1,0 +1,190 @@
+//! `run`: one rule run on a house file, in place.
+
+use super::{Answer, Command, View, GOOD, NAMES, NO_WAIT, REFUSED};
+use crate::arguments::{Arguments, Choice};
+use crate::failure::Failure;
+use crate::input::{self, Content};
+use crate::json::Json;
+use crate::limits::{BLANKS, UNUSED};
+use crate::refused::{self, BadFile};
+use crate::replace::{self, Edit, Options, Outcome};
+use crate::story::{self, carry_out, Done};
+use crate::trace::Step;
+use crate::words::Words;
+use crate::{labels, reasons, table};
+use std::ffi::{OsStr, OsString};
+use std::path::{Path, PathBuf};
+
+pub const COMMAND: Command = Command {
+    name: "run",
+    usage: "FILE RULE NAME..",
+    summary: "one rule run on a house file, in place",
+    about: "Rule and names are given by number, or by word with --names. DONE is printed when the new file is on the\n\
+            device; at every moment the file is the old one or the new one. A refused run changes nothing.\n\
+            A killed run leaves nothing that blocks the next one.",
+    least: 2,
+    most: 2 + BLANKS,
+    options: &[
+        NAMES,
+        Choice {
+            long: "--log",
+            short: None,
+            value: Some("TRACE"),
+            help: "append the step, 5 bytes, to this file",
+        },
+        Choice {
+            long: "--dry",
+            short: None,
+            value: None,
+            help: "tell what would be done and change nothing",
+        },
+        NO_WAIT,
+    ],
+    run,
+};
+
+/// What came of the run, told under the lock.
+enum Came {
+    BadFile(BadFile),
+    Refused(Words, Step, u8, Option<String>),
+    Done(Words, Done),
+}
+
+fn run(arguments: &Arguments, view: &View) -> Result<Answer, Failure> {
+    let path = &arguments.plain[0];
+    if path == "-" {
+        let advice = "give the path of a house file";
+        return Err(Failure::said(
+            "run: standard input cannot be changed in place",
+            advice,
+        ));
+    }
+    let (came, notes) = match arguments.has("--dry") {
+        true => {
+            let file = input::bytes(path)?;
+            let (_, came) = attempt(&file, arguments);
+            (came, Vec::new())
+        }
+        false => in_place(path, arguments)?,
+    };
+    let mut answer = told(came?, arguments, view);
+    answer.notes = notes;
+    Ok(answer)
+}
+
+fn in_place(
+    path: &OsStr,
+    arguments: &Arguments,
+) -> Result<(Result<Came, Failure>, Vec<String>), Failure> {
+    let options = Options {
+        wait: !arguments.has("--no-wait"),
+        log: arguments.value("--log").map(PathBuf::from),
+    };
+    let outcome = replace::edit(Path::new(path), &options, |file| attempt(file, arguments))?;
+    Ok(match outcome {
+        Outcome::Unchanged { value, notes } | Outcome::Done { value, notes } => (value, notes),
+    })
+}
+
+/// Runs the rule on a copy of the file.
+fn attempt(file: &[u8], arguments: &Arguments) -> (Edit, Result<Came, Failure>) {
+    match try_on(file, arguments) {
+        Ok((Some(edit), came)) => (edit, Ok(came)),
+        Ok((None, came)) => (Edit::Keep, Ok(came)),
+        Err(failure) => (Edit::Keep, Err(failure)),
+    }
+}
+
+fn try_on(file: &[u8], arguments: &Arguments) -> Result<(Option<Edit>, Came), Failure> {
+    let path = &arguments.plain[0];
+    if table::is_table(file) {
+        let advice = "make a house file of it first: tugcaphi make TABLE -o FILE";
+        return Err(Failure::said(
+            format!("{}: this is a table", input::shown(path)),
+            advice,
+        ));
+    }
+    let Content { house, words } = match input::content(file, arguments.value("--names"))? {
+        Ok(content) => content,
+        Err(refusal) => return Ok((None, Came::BadFile(BadFile::new(file, refusal)))),
+    };
+    let step = step(&arguments.plain[1..], &words)?;
+    let mut new = file.to_vec();
+    Ok(match carry_out(&mut new, step) {
+        Ok(done) => {
+            let log = Some(step.bytes());
+            (
+                Some(Edit::Write { file: new, log }),
+                Came::Done(words, done),
+            )
+        }
+        Err(refusal) => {
+            let reason = reasons::reason(&house, &words, step, refusal);
+            (None, Came::Refused(words, step, refusal, reason))
+        }
+    })
+}
+
+/// The rule run that the words say. Whether the names are as many as the rule's blanks, the library says.
+fn step(given: &[OsString], words: &Words) -> Result<Step, Failure> {
+    let rule = words.rule_number(&given[0])?;
+    let mut actuals = [UNUSED; BLANKS];
+    for (actual, name) in actuals.iter_mut().zip(&given[1..]) {
+        *actual = words.name_number(name)?;
+    }
+    Ok(Step { rule, actuals })
+}
+
+fn told(came: Came, arguments: &Arguments, view: &View) -> Answer {
+    let dry = arguments.has("--dry");
+    let path = input::shown(&arguments.plain[0]);
+    let mut json = vec![("path", path.clone().into()), ("dry", dry.into())];
+    match came {
+        Came::BadFile(bad) => {
+            json.push(("answer", "refused".into()));
+            json.extend(bad.json());
+            answer(REFUSED, bad.lines(&path, view.style), json)
+        }
+        Came::Refused(words, step, refusal, reason) => {
+            let mut text = refused::headline(refusal, view.style);
+            text += &format!("  {}\n", story::call(&words, step));
+            text += &reason
+                .as_ref()
+                .map_or(String::new(), |reason| format!("  {reason}\n"));
+            json.push(("answer", "refused".into()));
+            json.extend(refused::fields(refusal));
+            json.push(("reason", reason.into()));
+            json.extend(labels::call(&words, step));
+            answer(REFUSED, text, json)
+        }
+        Came::Done(words, done) => {
+            let head = if dry {
+                "DRY RUN, nothing written"
+            } else {
+                "DONE"
+            };
+            let text = format!("{}\n{}", view.style.good(head), told_acts(&words, &done));
+            let acts = done.acts.iter().map(|act| labels::act(&words, act));
+            json.push(("answer", "done".into()));
+            json.extend(labels::call(&words, done.step));
+            json.push(("acts", acts.collect()));
+            answer(GOOD, text, json)
+        }
+    }
+}
+
+/// The rule with its names, and what each of its operations did.
+fn told_acts(words: &Words, done: &Done) -> String {
+    let acts = done.acts.iter().map(|act| story::clause(words, act));
+    let lines = [story::call(words, done.step)].into_iter().chain(acts);
+    lines.map(|line| format!("  {line}\n")).collect()
+}
+
+fn answer(status: u8, text: String, json: Vec<(&'static str, Json)>) -> Answer {
+    Answer {
+        status,
+        text: text.into_bytes(),
+        json,
+        ..Answer::default()
+    }
+}

@@ -1,0 +1,87 @@
+//! The matrix as a grid of words.
+
+use crate::house::House;
+use crate::terminal::{padded, width};
+use crate::words::Words;
+
+/// Rows of subjects and columns of names, in blocks that are at most `columns` wide if that is given.
+pub fn lines(house: &House, words: &Words, columns: Option<usize>) -> Vec<String> {
+    let subjects = house.matrix.subjects();
+    let names = house.matrix.names();
+    if names.is_empty() {
+        return vec!["no names".to_string()];
+    }
+    let rows: Vec<String> = subjects.iter().map(|&name| words.name(name)).collect();
+    let margin = rows.iter().map(|row| width(row)).max().unwrap_or(0);
+    let filled: Vec<Vec<String>> = names
+        .iter()
+        .map(|&name| column(house, words, &subjects, name))
+        .collect();
+    let mut lines = Vec::new();
+    for block in blocks(
+        &filled,
+        columns.map(|columns| columns.saturating_sub(margin + 3)),
+    ) {
+        if !lines.is_empty() {
+            lines.push(String::new());
+        }
+        let line = |row: usize| {
+            let cells = block
+                .iter()
+                .map(|column| padded(&column[row], wide(column)));
+            cells.collect::<Vec<String>>().join("  ")
+        };
+        let rule: usize = block.iter().map(|column| wide(column) + 2).sum();
+        lines.push(format!("{} │ {}", " ".repeat(margin), line(0)));
+        lines.push(format!("{}─┼{}", "─".repeat(margin), "─".repeat(rule)));
+        for (row, subject) in rows.iter().enumerate() {
+            lines.push(format!("{} │ {}", padded(subject, margin), line(row + 1)));
+        }
+    }
+    lines
+        .iter()
+        .map(|line| line.trim_end().to_string())
+        .collect()
+}
+
+/// A column: the name, and the rights of each subject.
+fn column(house: &House, words: &Words, subjects: &[usize], name: usize) -> Vec<String> {
+    let cell = |&subject: &usize| {
+        let rights = house.matrix.cell(subject, name).iter();
+        rights
+            .map(|right| words.right(right))
+            .collect::<Vec<String>>()
+            .join(" ")
+    };
+    let mut column = vec![words.name(name)];
+    column.extend(subjects.iter().map(cell));
+    column
+}
+
+fn wide(column: &[String]) -> usize {
+    column.iter().map(|cell| width(cell)).max().unwrap_or(0)
+}
+
+/// Columns side by side as far as they fit.
+fn blocks(columns: &[Vec<String>], most: Option<usize>) -> Vec<&[Vec<String>]> {
+    let Some(most) = most else {
+        return vec![columns];
+    };
+    let mut blocks = Vec::new();
+    let mut rest = columns;
+    while !rest.is_empty() {
+        let mut taken = 0;
+        let mut used = 0;
+        for column in rest {
+            used += wide(column) + 2;
+            if taken > 0 && used > most {
+                break;
+            }
+            taken += 1;
+        }
+        let (block, after) = rest.split_at(taken);
+        blocks.push(block);
+        rest = after;
+    }
+    blocks
+}

@@ -1,0 +1,100 @@
+//! Rights, names, rules and steps for other programs: numbers, with words beside them.
+
+use crate::house::Kind;
+use crate::json::Json;
+use crate::machine::{Act, Held};
+use crate::story::Done;
+use crate::trace::Step;
+use crate::words::Words;
+
+/// The number of something, and its word if a table gives it one.
+fn labelled(words: &Words, number: usize, word: Option<&String>) -> Json {
+    let word = word.filter(|_| !words.plain);
+    Json::Object(vec![
+        ("number", number.into()),
+        ("word", word.cloned().into()),
+    ])
+}
+
+pub fn right(words: &Words, right: usize) -> Json {
+    labelled(words, right, words.rights.get(right))
+}
+
+pub fn name(words: &Words, name: usize) -> Json {
+    labelled(words, name, words.names.get(name).and_then(Option::as_ref))
+}
+
+pub fn rule(words: &Words, rule: usize) -> Json {
+    labelled(words, rule, words.rules.get(rule).map(|words| &words.rule))
+}
+
+pub fn cell(words: &Words, (subject, object): (usize, usize)) -> Json {
+    Json::Object(vec![
+        ("subject", name(words, subject)),
+        ("object", name(words, object)),
+    ])
+}
+
+pub fn held(words: &Words, (held, subject, object): Held) -> Json {
+    Json::Object(vec![
+        ("right", right(words, held)),
+        ("subject", name(words, subject)),
+        ("object", name(words, object)),
+    ])
+}
+
+pub fn kind(kind: Kind) -> Json {
+    match kind {
+        Kind::Absent => "absent".into(),
+        Kind::Object => "object".into(),
+        Kind::Subject => "subject".into(),
+    }
+}
+
+/// A rule and the names it is run with.
+pub fn call(words: &Words, step: Step) -> Vec<(&'static str, Json)> {
+    let names = step.names();
+    vec![
+        ("rule", rule(words, usize::from(step.rule))),
+        ("names", names.iter().map(|&n| name(words, n)).collect()),
+    ]
+}
+
+pub fn done(words: &Words, done: &Done) -> Json {
+    let mut fields = call(words, done.step);
+    fields.push((
+        "acts",
+        done.acts.iter().map(|one| act(words, one)).collect(),
+    ));
+    Json::Object(fields)
+}
+
+pub fn act(words: &Words, act: &Act) -> Json {
+    let in_cell = |verb: &str, of: Held, changed: bool| {
+        let (right_of, subject, object) = of;
+        vec![
+            ("act", verb.into()),
+            ("right", right(words, right_of)),
+            ("subject", name(words, subject)),
+            ("object", name(words, object)),
+            ("changed", changed.into()),
+        ]
+    };
+    let on_name = |verb: &str, of: usize, its: Kind| {
+        vec![
+            ("act", verb.into()),
+            ("kind", kind(its)),
+            ("name", name(words, of)),
+        ]
+    };
+    Json::Object(match act {
+        Act::Enter { held, new } => in_cell("enter", *held, *new),
+        Act::Delete { held, gone } => in_cell("delete", *held, *gone),
+        Act::Create { name, kind } => on_name("create", *name, *kind),
+        Act::Destroy { name, kind, lost } => {
+            let mut fields = on_name("destroy", *name, *kind);
+            fields.push(("lost", lost.iter().map(|&one| held(words, one)).collect()));
+            fields
+        }
+    })
+}

@@ -1,0 +1,102 @@
+//! The proved library behind its C boundary (`include/tugcaphi.h`). Every verdict, refusal, replay
+//! and rule run of the program is one of these four answers, decided there and nowhere else.
+
+#[link(name = "exports", kind = "static")]
+extern "C" {
+    fn access_check(file: *const u8, length: usize) -> u8;
+    fn access_run(file: *mut u8, length: usize, rule: u8, a0: u8, a1: u8, a2: u8, a3: u8) -> u8;
+    fn access_replay(
+        file: *const u8,
+        length: usize,
+        trace: *const u8,
+        trace_length: usize,
+        right: u8,
+        step: *mut u64,
+    ) -> u8;
+    fn access_judge(
+        file: *const u8,
+        length: usize,
+        right: u8,
+        buffer: *mut u8,
+        buffer_length: usize,
+        steps: *mut u64,
+    ) -> u8;
+}
+
+/// The code of a leak, and of an unsafe table.
+const LEAK: u8 = 255;
+
+#[derive(Clone, Copy, Debug, PartialEq, Eq)]
+pub enum Replay {
+    NoLeak,
+    /// The number of the leaking step, from 0.
+    Leak(u64),
+    Refused {
+        by: u8,
+        step: u64,
+    },
+}
+
+#[derive(Clone, Copy, Debug, PartialEq, Eq)]
+pub enum Judgement {
+    /// The number of steps at the front of the buffer.
+    Safe(u64),
+    Unsafe(u64),
+    Refused(u8),
+}
+
+/// 0, or the refusal of whoever wrote the file.
+pub fn check(file: &[u8]) -> u8 {
+    // SAFETY: pointer and length are those of a slice, which is only read.
+    unsafe { access_check(file.as_ptr(), file.len()) }
+}
+
+/// 0 where the rule was run, or the refusal; refused, the file keeps its bytes.
+pub fn run(file: &mut [u8], rule: u8, actuals: [u8; 4]) -> u8 {
+    let [a0, a1, a2, a3] = actuals;
+    // SAFETY: pointer and length are those of a slice lent for writing.
+    unsafe { access_run(file.as_mut_ptr(), file.len(), rule, a0, a1, a2, a3) }
+}
+
+pub fn replay(file: &[u8], trace: &[u8], right: u8) -> Replay {
+    let mut step = 0;
+    // SAFETY: pointers and lengths are those of slices, which are only read; the step is a number
+    // of our own.
+    let code = unsafe {
+        access_replay(
+            file.as_ptr(),
+            file.len(),
+            trace.as_ptr(),
+            trace.len(),
+            right,
+            &mut step,
+        )
+    };
+    match code {
+        0 => Replay::NoLeak,
+        LEAK => Replay::Leak(step),
+        by => Replay::Refused { by, step },
+    }
+}
+
+/// The judge's steps fill the front of the buffer, five bytes each; the rest of it keeps its bytes.
+pub fn judge(file: &[u8], right: u8, buffer: &mut [u8]) -> Judgement {
+    let mut steps = 0;
+    // SAFETY: pointers and lengths are those of slices that do not overlap; of these only the
+    // buffer, lent for writing, is written. The number of steps is one of our own.
+    let code = unsafe {
+        access_judge(
+            file.as_ptr(),
+            file.len(),
+            right,
+            buffer.as_mut_ptr(),
+            buffer.len(),
+            &mut steps,
+        )
+    };
+    match code {
+        0 => Judgement::Safe(steps),
+        LEAK => Judgement::Unsafe(steps),
+        by => Judgement::Refused(by),
+    }
+}

@@ -1,0 +1,154 @@
+//! Why a rule run was refused: which actual, condition or step. The number is the proved library's; the reason is found
+//! beside it and is left out where it belongs to another number.
+
+use crate::count::count;
+use crate::house::{Condition, House, Matrix, Rule};
+use crate::limits::{NAMES, UNUSED};
+use crate::machine::{perform, reachable, Why};
+use crate::table::writer;
+use crate::trace::Step;
+use crate::words::Words;
+
+/// The reason for a refusal, where it is found.
+pub fn reason(house: &House, words: &Words, step: Step, refusal: u8) -> Option<String> {
+    let (found, reason) = first(house, words, step)?;
+    (found == refusal).then_some(reason)
+}
+
+/// The first reason why a rule run cannot be done, and its refusal.
+fn first(house: &House, words: &Words, step: Step) -> Option<(u8, String)> {
+    let Some(rule) = house.rules.get(usize::from(step.rule)) else {
+        return Some((11, no_rule(house, step.rule)));
+    };
+    let run = Run {
+        matrix: &house.matrix,
+        rule,
+        words,
+        step,
+    };
+    None.or_else(|| run.actuals().map(|reason| (12, reason)))
+        .or_else(|| run.spare().map(|reason| (13, reason)))
+        .or_else(|| run.conditions().map(|reason| (14, reason)))
+        .or_else(|| run.steps().map(|reason| (15, reason)))
+}
+
+fn no_rule(house: &House, rule: u8) -> String {
+    match house.rules.len() {
+        0 => format!("there is no rule {rule}: the file has no rules"),
+        1 => format!("there is no rule {rule}: the file has rule 0 alone"),
+        n => format!("there is no rule {rule}: the file has rules 0 to {}", n - 1),
+    }
+}
+
+struct Run<'a> {
+    matrix: &'a Matrix,
+    rule: &'a Rule,
+    words: &'a Words,
+    step: Step,
+}
+
+impl Run<'_> {
+    fn rule_words(&self) -> (String, &[String]) {
+        let number = usize::from(self.step.rule);
+        (self.words.rule(number), &self.words.rules[number].blanks)
+    }
+
+    fn names(&self) -> Vec<usize> {
+        self.step
+            .actuals
+            .iter()
+            .map(|&name| usize::from(name))
+            .collect()
+    }
+
+    fn name_words(&self) -> Vec<String> {
+        self.names()
+            .iter()
+            .map(|&name| self.words.name(name))
+            .collect()
+    }
+
+    fn actuals(&self) -> Option<String> {
+        let (rule, blanks) = self.rule_words();
+        let blanks_are = format!(
+            "{rule} has {}: {}",
+            count(blanks.len(), "blank"),
+            blanks.join(", ")
+        );
+        for (place, &name) in self.step.actuals.iter().enumerate() {
+            let used = place < self.rule.blanks;
+            if used && name == UNUSED {
+                return Some(format!(
+                    "the blank {} has no name; {blanks_are}",
+                    blanks[place]
+                ));
+            }
+            if used && usize::from(name) >= NAMES {
+                return Some(format!("{name} is no name; names are 0 to {}", NAMES - 1));
+            }
+            if !used && name != UNUSED {
+                return Some(format!("there is a name too many; {blanks_are}"));
+            }
+        }
+        None
+    }
+
+    fn spare(&self) -> Option<String> {
+        let (_, blanks) = self.rule_words();
+        let names = self.names();
+        let absent = |blank: &usize| self.matrix.kinds[names[*blank]] == crate::house::Kind::Absent;
+        let blank = self.rule.spare().into_iter().find(absent)?;
+        let name = self.words.name(names[blank]);
+        Some(format!(
+            "{name} does not exist, and the blank {} needs a name that does",
+            blanks[blank]
+        ))
+    }
+
+    fn conditions(&self) -> Option<String> {
+        let names = self.names();
+        for condition in &self.rule.conditions {
+            if let Err(why) = holds(self.matrix, condition, &names) {
+                let text = writer::condition(condition, &self.name_words(), self.words);
+                let because = match why {
+                    Why::Lacks => String::new(),
+                    why => format!(": {}", because(why, self.words)),
+                };
+                return Some(format!("the condition {text} does not hold{because}"));
+            }
+        }
+        None
+    }
+
+    fn steps(&self) -> Option<String> {
+        let mut matrix = self.matrix.clone();
+        for operation in &self.rule.steps {
+            if let Err(why) = perform(&mut matrix, *operation, &self.names()) {
+                let text = writer::operation(operation, &self.name_words(), self.words);
+                return Some(format!(
+                    "the step {text} cannot be done: {}",
+                    because(why, self.words)
+                ));
+            }
+        }
+        None
+    }
+}
+
+fn holds(matrix: &Matrix, condition: &Condition, names: &[usize]) -> Result<(), Why> {
+    let (s, o) = reachable(matrix, names[condition.subject], names[condition.object])?;
+    match matrix.cell(s, o).has(condition.right) {
+        true => Ok(()),
+        false => Err(Why::Lacks),
+    }
+}
+
+fn because(why: Why, words: &Words) -> String {
+    match why {
+        Why::NoSubject(name) => format!("{} is no subject", words.name(name)),
+        Why::Absent(name) => format!("{} does not exist", words.name(name)),
+        Why::There(name) => format!("{} exists already", words.name(name)),
+        Why::Subject(name) => format!("{} is a subject", words.name(name)),
+        Why::Lacks => "the right is not there".to_string(),
+    }
+}

@@ -1,0 +1,176 @@
+//! The log of a file: a trace, five bytes a step, to which each run adds its own.
+
+use super::hold::{same, NO_FOLLOW, NO_WAIT};
+use super::liken::liken_roughly;
+use super::place::{resolve, sort, why, Resolved};
+use super::Problem;
+use std::ffi::c_int;
+use std::fs::{self, File, Metadata, OpenOptions};
+use std::io::{self, ErrorKind, Write};
+use std::os::fd::AsRawFd;
+use std::os::unix::fs::{FileExt, MetadataExt, OpenOptionsExt};
+use std::path::{Path, PathBuf};
+
+extern "C" {
+    fn fallocate(file: c_int, mode: c_int, offset: i64, length: i64) -> c_int;
+}
+
+/// `fallocate` reserves room and leaves the length.
+const KEEP_SIZE: c_int = 1;
+/// No room on the device, or for this user; a file system without reservations says something else.
+const NO_ROOM: [i32; 2] = [28, 122];
+
+pub const STEP: u64 = 5;
+
+pub struct Log {
+    /// As the user named it, for messages.
+    pub given: PathBuf,
+    pub path: PathBuf,
+    pub before: u64,
+    file: File,
+    made: bool,
+}
+
+fn options() -> OpenOptions {
+    let mut options = OpenOptions::new();
+    options
+        .read(true)
+        .append(true)
+        .custom_flags(NO_FOLLOW | NO_WAIT);
+    options
+}
+
+impl Log {
+    /// The log, opened, with room for a step; made where it is not there, with the group and mode
+    /// of the file it goes with.
+    pub fn open(given: &Path, with: &Metadata) -> Result<Log, Problem> {
+        let about = |text: String| Problem::about(given, text);
+        let Resolved { path, there } = resolve(given)?;
+        if let Some(there) = &there {
+            if same(there, with) {
+                return Err(about(
+                    "the log must be another file than the one that the rule is run on.".into(),
+                ));
+            }
+            if !there.is_file() {
+                return Err(about(format!("{}; the log must be a file.", sort(there))));
+            }
+        }
+        let (file, made) = match options().open(&path) {
+            Ok(file) => (file, false),
+            Err(wrong) if wrong.kind() == ErrorKind::NotFound => {
+                let made = options().create_new(true).mode(0o600).open(&path);
+                let file = made
+                    .map_err(|wrong| about(format!("the log cannot be made: {}.", why(&wrong))))?;
+                liken_roughly(&file, with, with.mode());
+                (file, true)
+            }
+            Err(wrong) => {
+                return Err(about(format!(
+                    "the log cannot be written: {}.",
+                    why(&wrong)
+                )))
+            }
+        };
+        let before = file.metadata().map_err(|wrong| about(why(&wrong)))?.len();
+        let log = Log {
+            given: given.to_path_buf(),
+            path,
+            before,
+            file,
+            made,
+        };
+        if !before.is_multiple_of(STEP) {
+            return Err(about(format!(
+                "{before} bytes are no whole number of steps, 5 bytes each, so this is no log; name another with --log."
+            )));
+        }
+        if let Err(wrong) = log.reserve() {
+            log.forget();
+            return Err(about(format!("no room for a step: {}.", why(&wrong))));
+        }
+        Ok(log)
+    }
+
+    fn reserve(&self) -> io::Result<()> {
+        let Ok(offset) = i64::try_from(self.before) else {
+            return Ok(());
+        };
+        // SAFETY: an open file and numbers.
+        let done = unsafe { fallocate(self.file.as_raw_fd(), KEEP_SIZE, offset, STEP as i64) };
+        let wrong = io::Error::last_os_error();
+        if done != 0
+            && wrong
+                .raw_os_error()
+                .is_some_and(|number| NO_ROOM.contains(&number))
+        {
+            return Err(wrong);
+        }
+        Ok(())
+    }
+
+    /// Removes a log that was made for a step that is not to come.
+    pub fn forget(&self) {
+        if self.made {
+            let _ = fs::remove_file(&self.path);
+        }
+    }
+
+    /// Adds the step, on the device when this comes back.
+    pub fn append(&mut self, step: [u8; 5]) -> io::Result<()> {
+        add(&mut self.file, &step)?;
+        if self.made {
+            sync_folder(&self.path)?;
+        }
+        Ok(())
+    }
+}
+
+fn add(file: &mut File, bytes: &[u8]) -> io::Result<()> {
+    let before = file.metadata()?.len();
+    if let Err(wrong) = file.write_all(bytes) {
+        // Not even a part of a step stays; where that fails too, the next run finds the part and
+        // adds the rest.
+        let _ = file.set_len(before);
+        return Err(wrong);
+    }
+    file.sync_all()
+}
+
+pub fn sync_folder(path: &Path) -> io::Result<()> {
+    File::open(path.parent().unwrap_or(Path::new("/")))?.sync_all()
+}
+
+/// What became of a step that a stopped run may not have added.
+pub enum Mended {
+    There,
+    Added,
+    /// The log is gone, or was changed by other means.
+    Changed,
+}
+
+/// Sees to it that the log has this step behind its first `before` bytes.
+pub fn mend(path: &Path, before: u64, step: [u8; 5]) -> io::Result<Mended> {
+    let mut file = match options().open(path) {
+        Err(wrong) if wrong.kind() == ErrorKind::NotFound => return Ok(Mended::Changed),
+        opened => opened?,
+    };
+    let there = file.metadata()?;
+    let Some(behind) = there.len().checked_sub(before).filter(|_| there.is_file()) else {
+        return Ok(Mended::Changed);
+    };
+    let mut found = [0; STEP as usize];
+    let found = &mut found[..behind.min(STEP) as usize];
+    file.read_exact_at(found, before)?;
+    if !step.starts_with(found) {
+        return Ok(Mended::Changed);
+    }
+    if found.len() == step.len() {
+        file.sync_all()?;
+        sync_folder(path)?;
+        return Ok(Mended::There);
+    }
+    add(&mut file, &step[found.len()..])?;
+    sync_folder(path)?;
+    Ok(Mended::Added)
+}

@@ -1,0 +1,284 @@
+//! Where a file stands, the names beside it, and what is refused of it.
+
+use super::hold::{hold, Lock, NotHeld, NO_FOLLOW, NO_WAIT};
+use super::liken::liken_roughly;
+use super::Problem;
+use std::ffi::OsString;
+use std::fs::{self, File, Metadata, OpenOptions};
+use std::io::{self, ErrorKind, Read};
+use std::os::unix::fs::{FileTypeExt, MetadataExt, OpenOptionsExt};
+use std::path::{Path, PathBuf};
+
+/// The most that is read of a file. Every house file is shorter, and what is longer is refused
+/// alike, cut off or not.
+pub const MOST: u64 = 65_536;
+
+/// A path without links, and what is there.
+pub struct Resolved {
+    pub path: PathBuf,
+    pub there: Option<Metadata>,
+}
+
+pub fn resolve(given: &Path) -> Result<Resolved, Problem> {
+    let about =
+        |text: &str, wrong: &io::Error| Problem::about(given, format!("{text}{}.", why(wrong)));
+    match fs::canonicalize(given) {
+        Ok(path) => {
+            let there = fs::symlink_metadata(&path).map_err(|wrong| about("", &wrong))?;
+            return Ok(Resolved {
+                path,
+                there: Some(there),
+            });
+        }
+        Err(wrong) if wrong.kind() == ErrorKind::NotFound => {}
+        Err(wrong) => return Err(about("", &wrong)),
+    }
+    if fs::symlink_metadata(given).is_ok() {
+        return Err(Problem::about(
+            given,
+            "a symbolic link that leads to no file.",
+        ));
+    }
+    let (Some(name), Some(folder)) = (given.file_name(), given.parent()) else {
+        return Err(Problem::about(given, "this is no name of a file."));
+    };
+    let folder = fs::canonicalize(Path::new(".").join(folder))
+        .map_err(|wrong| about("its folder: ", &wrong))?;
+    Ok(Resolved {
+        path: folder.join(name),
+        there: None,
+    })
+}
+
+/// What the system says, without its number.
+pub fn why(wrong: &io::Error) -> String {
+    let text = wrong.to_string();
+    text.split(" (os error")
+        .next()
+        .unwrap_or_default()
+        .to_string()
+}
+
+/// What is there that is no file.
+pub fn sort(there: &Metadata) -> &'static str {
+    let kind = there.file_type();
+    if kind.is_dir() {
+        "a folder"
+    } else if kind.is_fifo() {
+        "a pipe"
+    } else if kind.is_socket() {
+        "a socket"
+    } else {
+        "a device"
+    }
+}
+
+pub struct Place<'a> {
+    /// As the user named it, for messages.
+    given: &'a Path,
+    pub path: PathBuf,
+    lock: PathBuf,
+    pub new: PathBuf,
+    pub record: PathBuf,
+}
+
+impl Place<'_> {
+    /// The place of a file that is there.
+    pub fn of(given: &Path) -> Result<Place<'_>, Problem> {
+        let resolved = resolve(given)?;
+        match resolved.there {
+            None => Err(Problem::about(given, "there is no file of this name.")),
+            Some(there) => {
+                let place = Place::at(given, resolved.path);
+                place.regular(&there).map(|()| place)
+            }
+        }
+    }
+
+    pub fn at(given: &Path, path: PathBuf) -> Place<'_> {
+        let beside = |ending: &str| {
+            let mut name = OsString::from(".");
+            name.push(path.file_name().unwrap_or_default());
+            name.push(ending);
+            path.with_file_name(name)
+        };
+        Place {
+            given,
+            lock: beside(".tugcaphi-lock"),
+            new: beside(".tugcaphi-new"),
+            record: beside(".tugcaphi-step"),
+            path,
+        }
+    }
+
+    pub fn about(&self, text: impl AsRef<str>) -> Problem {
+        Problem::about(self.given, text)
+    }
+
+    pub fn failed(&self, text: impl AsRef<str>, wrong: &io::Error) -> Problem {
+        self.about(format!("{}: {}.", text.as_ref(), why(wrong)))
+    }
+
+    pub fn folder(&self) -> &Path {
+        self.path.parent().unwrap_or(Path::new("/"))
+    }
+
+    fn regular(&self, there: &Metadata) -> Result<(), Problem> {
+        if there.is_file() {
+            return Ok(());
+        }
+        let text = format!("{}, which cannot be replaced; name a file.", sort(there));
+        Err(self.about(text))
+    }
+
+    fn open(&self) -> io::Result<File> {
+        OpenOptions::new()
+            .read(true)
+            .write(true)
+            .custom_flags(NO_FOLLOW | NO_WAIT)
+            .open(&self.path)
+    }
+
+    fn not_opened(&self, wrong: &io::Error) -> Problem {
+        match wrong.kind() {
+            ErrorKind::PermissionDenied => {
+                let text = "you may not read and write this file; ask its owner";
+                self.failed(text, wrong)
+            }
+            _ => self.failed("it cannot be opened for reading and writing", wrong),
+        }
+    }
+
+    /// Opens the file, before there is anything beside it, and says what it is.
+    pub fn look(&self) -> Result<Metadata, Problem> {
+        let file = self.open().map_err(|wrong| self.not_opened(&wrong))?;
+        self.single(&file)
+    }
+
+    /// The file that is held, with its one name.
+    pub fn alone(&self, file: &File) -> Result<Metadata, Problem> {
+        let there = self.single(file)?;
+        if there.nlink() == 0 {
+            return Err(self.overtaken());
+        }
+        Ok(there)
+    }
+
+    /// A regular file with no name but this: a rename would part it from its other names.
+    fn single(&self, file: &File) -> Result<Metadata, Problem> {
+        let there = file
+            .metadata()
+            .map_err(|wrong| self.failed("it cannot be read", &wrong))?;
+        self.regular(&there)?;
+        let names = there.nlink();
+        if names <= 1 {
+            return Ok(there);
+        }
+        Err(self.about(format!(
+            "this file has {names} names (hard links), and a change would reach one of them alone; \
+             copy it, and work on the copy."
+        )))
+    }
+
+    /// Programs that know nothing of the lock can replace the file, or write into it, at any time.
+    pub fn overtaken(&self) -> Problem {
+        self.about(
+            "another program changed this file meanwhile, so nothing was changed; run it again.",
+        )
+    }
+
+    /// The file, held.
+    pub fn hold(&self, wait: bool) -> Result<File, Problem> {
+        hold(&self.path, wait, || self.open()).map_err(|not| match not {
+            NotHeld::Failed(wrong) => self.not_opened(&wrong),
+            taken => self.not_held(taken),
+        })
+    }
+
+    fn not_held(&self, not: NotHeld) -> Problem {
+        match not {
+            NotHeld::Taken => self.about("another run is at work on this file; without --no-wait this one waits for its end."),
+            NotHeld::Failed(wrong) => self.failed("it cannot be locked", &wrong),
+        }
+    }
+
+    pub fn read(&self, mut file: &File) -> Result<Vec<u8>, Problem> {
+        let mut content = Vec::new();
+        let whole =
+            io::Seek::rewind(&mut file).and_then(|()| file.take(MOST).read_to_end(&mut content));
+        match whole {
+            Ok(_) => Ok(content),
+            Err(wrong) => Err(self.failed("it cannot be read", &wrong)),
+        }
+    }
+
+    /// The lock file, held. Whoever may write the file may open it, and nobody else.
+    pub fn lock(&self, wait: bool, was: Option<&Metadata>) -> Result<Lock, Problem> {
+        let mode = was.map_or(0o600, |was| {
+            let write = was.mode() & 0o222;
+            write | write << 1
+        });
+        let like = |file: &File| {
+            if let Some(was) = was {
+                liken_roughly(file, was, mode);
+            }
+        };
+        Lock::take(&self.lock, wait, mode, like).map_err(|not| match not {
+            NotHeld::Taken => self.not_held(not),
+            NotHeld::Failed(wrong) => {
+                let text = format!(
+                    "the lock file {} cannot be made, so nothing was changed; you need a folder in which you may make files",
+                    self.lock.display()
+                );
+                self.failed(text, &wrong)
+            }
+        })
+    }
+
+    /// Removes the new content that a stopped run left. A run at work holds its own.
+    pub fn remove_new(&self, wait: bool) -> Result<(), Problem> {
+        let open = || {
+            OpenOptions::new()
+                .write(true)
+                .custom_flags(NO_FOLLOW | NO_WAIT)
+                .open(&self.new)
+        };
+        let removed = match hold(&self.new, wait, open) {
+            Ok(_held) => fs::remove_file(&self.new),
+            Err(NotHeld::Taken) => return Err(self.not_held(NotHeld::Taken)),
+            Err(NotHeld::Failed(wrong)) if wrong.kind() == ErrorKind::NotFound => Ok(()),
+            // Of another user, and not to be opened; it may be removed all the same, where the
+            // folder lets it.
+            Err(NotHeld::Failed(_)) => fs::remove_file(&self.new),
+        };
+        removed.map_err(|wrong| {
+            let left = self.new.display();
+            self.failed(
+                format!("a stopped run left {left}, which cannot be removed"),
+                &wrong,
+            )
+        })
+    }
+
+    /// The file for the new content, empty and held.
+    pub fn make_new(&self, mode: u32) -> Result<File, Problem> {
+        let make = || {
+            OpenOptions::new()
+                .write(true)
+                .create_new(true)
+                .mode(mode)
+                .custom_flags(NO_FOLLOW)
+                .open(&self.new)
+        };
+        hold(&self.new, true, make).map_err(|not| match not {
+            NotHeld::Taken => self.not_held(not),
+            NotHeld::Failed(wrong) => {
+                let folder = self.folder().display();
+                self.failed(
+                    format!("no file can be made in {folder}, so nothing was changed"),
+                    &wrong,
+                )
+            }
+        })
+    }
+}

@@ -1,0 +1,159 @@
+//! One HTML page with all that a verdict rests on: grid, rules, verdicts, steps and pictures. It needs nothing from
+//! anywhere else, and every element is closed, so that any XML reader can read it too.
+
+use crate::house::House;
+use crate::input::Content;
+use crate::picture::canvas::escaped;
+use crate::picture::panel;
+use crate::story;
+use crate::table::writer;
+use crate::verdict::{text, Leak, Ruling, Verdict};
+use crate::words::Words;
+use std::fmt::Write;
+
+/// More steps than these are a long list.
+const LONG: usize = 12;
+
+const STYLE: &str = "\
+:root{color-scheme:light}\
+body{margin:0;background:#f6f7f9;color:#1f2430;font:16px/1.5 system-ui,'Segoe UI','Helvetica Neue',Arial,'Noto Sans',sans-serif}\
+main{max-width:62rem;margin:0 auto;padding:2rem 1.25rem 3rem}\
+h1{font-size:1.7rem;margin:0 0 .25rem;overflow-wrap:anywhere}h2{font-size:1.25rem;margin:0 0 .75rem}\
+p{margin:.4rem 0}.note{color:#5b6270;font-size:.92rem}\
+section{background:#fff;border:1px solid #dfe2e8;border-radius:10px;padding:1.1rem 1.25rem;margin:1.1rem 0}\
+.wide{overflow-x:auto}table{border-collapse:collapse}\
+th,td{text-align:left;vertical-align:top;padding:.4rem .8rem;border-bottom:1px solid #e6e8ee}\
+thead th{border-bottom:2px solid #cfd4dd}.grid td,.grid th{border:1px solid #e6e8ee}.grid thead th,.grid tbody th{background:#f6f7f9}\
+.grid td span{display:block;white-space:nowrap}\
+.badge{display:inline-block;border-radius:99px;padding:.05rem .65rem;font-size:.82rem;font-weight:700;letter-spacing:.03em}\
+.is-safe{background:#e3f4e7;color:#14632b}.is-unsafe{background:#fbe3e1;color:#9a1c15}.is-refused{background:#fdf0d8;color:#7a4a00}\
+code{font:.92em ui-monospace,'SF Mono',Menlo,Consolas,'DejaVu Sans Mono',monospace}\
+ol{margin:.5rem 0;padding-left:2rem}li{margin:.25rem 0}li b{font-weight:600}\
+.came{font-weight:600;color:#9a1c15}svg{display:block}\
+@media print{body{background:#fff}section{break-inside:avoid}svg{max-width:100%;height:auto}}";
+
+/// The page of a judgement.
+pub fn page(title: &str, content: &Content, verdicts: &[Verdict]) -> String {
+    let Content { house, words } = content;
+    let title = escaped(title);
+    let version = env!("CARGO_PKG_VERSION");
+    let mut page = format!(
+        "<!doctype html>\n<html lang=\"en\">\n<head>\n<meta charset=\"utf-8\"/>\n\
+         <meta name=\"viewport\" content=\"width=device-width, initial-scale=1\"/>\n\
+         <title>{title}: verdicts</title>\n<style>{STYLE}</style>\n</head>\n<body>\n<main>\n\
+         <h1>{title}</h1>\n\
+         <p class=\"note\">Judged by tugcaphi {version}. Every verdict is the proved judge's.</p>\n"
+    );
+    page += &section("Verdicts", &summaries(content, verdicts));
+    for verdict in verdicts {
+        if let Ruling::Unsafe(leak) = &verdict.ruling {
+            page += &unsafe_section(content, verdict, leak);
+        }
+    }
+    page += &section("The matrix", &matrix(house, words));
+    page += &section("The rules", &rules(house, words));
+    page += &section("How to read this", READING);
+    page += "</main>\n</body>\n</html>\n";
+    page
+}
+
+const READING: &str = "\
+<p><b>Safe</b> means that no run of the rules, however long and with whatever new names, enters the right into a cell \
+that lacks it. <b>Unsafe</b> means that some run does; the steps are one way of perhaps many. <b>Refused</b> means that \
+the judge does not take the question as it stands.</p>\n\
+<p>In a picture a number stands where that step enters a right or creates a name, grey where it deletes one; arrows come \
+from what the step's conditions go by.</p>\n";
+
+fn section(title: &str, body: &str) -> String {
+    format!("<section>\n<h2>{title}</h2>\n{body}</section>\n")
+}
+
+fn badge(verdict: &Verdict) -> &'static str {
+    match verdict.ruling {
+        Ruling::Safe(_) => "<span class=\"badge is-safe\">SAFE</span>",
+        Ruling::Unsafe(_) => "<span class=\"badge is-unsafe\">UNSAFE</span>",
+        Ruling::Refused(_) => "<span class=\"badge is-refused\">REFUSED</span>",
+    }
+}
+
+fn summaries(content: &Content, verdicts: &[Verdict]) -> String {
+    let mut table = String::from(
+        "<div class=\"wide\"><table>\n<thead><tr><th>right</th><th>verdict</th><th>that is</th></tr></thead>\n<tbody>\n",
+    );
+    for verdict in verdicts {
+        let right = escaped(&content.words.right(usize::from(verdict.right)));
+        let summary = text::summary(content, verdict);
+        let summary = escaped(summary.trim_end_matches(':'));
+        let badge = badge(verdict);
+        let _ = writeln!(
+            table,
+            "<tr><th>{right}</th><td>{badge}</td><td>{summary}</td></tr>"
+        );
+    }
+    table + "</tbody>\n</table></div>\n"
+}
+
+/// The steps of an unsafe right and its picture; before a long list the picture comes first.
+fn unsafe_section(content: &Content, verdict: &Verdict, leak: &Leak) -> String {
+    let words = &content.words;
+    let right = words.right(usize::from(verdict.right));
+    let came = format!(
+        "<p class=\"came\">{}</p>\n",
+        escaped(&text::outcome(words, leak))
+    );
+    let title = format!("how {right} comes into a cell");
+    let drawn = panel::panel(content, verdict, false).element(&title);
+    let picture = format!("<div class=\"wide\">{drawn}</div>\n");
+    let steps = steps(words, leak);
+    let body = match leak.steps.len() > LONG {
+        true => format!("{came}{picture}{steps}"),
+        false => format!("{steps}{came}{picture}"),
+    };
+    section(&format!("{} {}", escaped(&right), badge(verdict)), &body)
+}
+
+fn steps(words: &Words, leak: &Leak) -> String {
+    let mut list = String::from("<ol>\n");
+    for done in &leak.steps {
+        let call = escaped(&story::call(words, done.step));
+        let sentence = escaped(&story::sentence(words, &done.acts));
+        let _ = writeln!(list, "<li><b>{call}</b> {sentence}</li>");
+    }
+    list + "</ol>\n"
+}
+
+fn matrix(house: &House, words: &Words) -> String {
+    let names = house.matrix.names();
+    if names.is_empty() {
+        return "<p>No names.</p>\n".to_string();
+    }
+    let mut table =
+        String::from("<div class=\"wide\"><table class=\"grid\">\n<thead><tr><th></th>");
+    for &name in &names {
+        let _ = write!(table, "<th>{}</th>", escaped(&words.name(name)));
+    }
+    table += "</tr></thead>\n<tbody>\n";
+    for subject in house.matrix.subjects() {
+        let _ = write!(table, "<tr><th>{}</th>", escaped(&words.name(subject)));
+        for &object in &names {
+            let rights = house.matrix.cell(subject, object).iter();
+            let spans =
+                rights.map(|right| format!("<span>{}</span>", escaped(&words.right(right))));
+            let _ = write!(table, "<td>{}</td>", spans.collect::<String>());
+        }
+        table += "</tr>\n";
+    }
+    table + "</tbody>\n</table></div>\n"
+}
+
+fn rules(house: &House, words: &Words) -> String {
+    if house.rules.is_empty() {
+        return "<p>No rules.</p>\n".to_string();
+    }
+    let mut list = String::from("<ul>\n");
+    for (rule, rule_words) in house.rules.iter().zip(&words.rules) {
+        let line = escaped(&writer::rule_line(rule, rule_words, words));
+        let _ = writeln!(list, "<li><code>{line}</code></li>");
+    }
+    list + "</ul>\n"
+}

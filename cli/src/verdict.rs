@@ -1,0 +1,110 @@
+//! The proved judge's verdict on a right, with its steps told in words.
+
+pub mod json;
+pub mod text;
+
+use crate::count::count;
+use crate::failure::Failure;
+use crate::house::House;
+use crate::library::{self, Judgement};
+use crate::limits::{BUFFER_BYTES, JUDGED_NAMES, STEP_BYTES};
+use crate::machine::Held;
+use crate::story::{carry_out, leak, Done};
+use crate::trace::steps;
+use crate::words::Words;
+
+pub struct Verdict {
+    pub right: u8,
+    /// The steps that the judge wrote, under safe too.
+    pub trace: Vec<u8>,
+    pub ruling: Ruling,
+}
+
+pub enum Ruling {
+    /// With the cells that hold the right already.
+    Safe(Vec<(usize, usize)>),
+    Unsafe(Leak),
+    Refused(u8),
+}
+
+/// A way in which a right comes into a cell that lacks it.
+pub struct Leak {
+    pub steps: Vec<Done>,
+    /// The right and the cell that it comes into.
+    pub held: Held,
+    /// Whether the cell held the right at the start.
+    pub again: bool,
+}
+
+/// Asks the judge about one right of an accepted file.
+pub fn judge(file: &[u8], house: &House, right: u8) -> Result<Verdict, Failure> {
+    let mut buffer = vec![0; BUFFER_BYTES];
+    let (written, ruling) = match library::judge(file, right, &mut buffer) {
+        Judgement::Refused(refusal) => (0, Ruling::Refused(refusal)),
+        Judgement::Safe(n) => (n, Ruling::Safe(house.matrix.holding(usize::from(right)))),
+        Judgement::Unsafe(n) => {
+            let trace = &buffer[..STEP_BYTES * n as usize];
+            (n, Ruling::Unsafe(told(file, house, right, trace)?))
+        }
+    };
+    buffer.truncate(STEP_BYTES * written as usize);
+    Ok(Verdict {
+        right,
+        trace: buffer,
+        ruling,
+    })
+}
+
+/// The judge's steps, carried out one after the other.
+fn told(file: &[u8], house: &House, right: u8, trace: &[u8]) -> Result<Leak, Failure> {
+    let mut file = file.to_vec();
+    let mut done = Vec::new();
+    for step in steps(trace) {
+        done.push(carry_out(&mut file, step).map_err(|_| astray())?);
+    }
+    let last = done.last().map_or(&[][..], |last| &last.acts);
+    let held = leak(last, usize::from(right)).ok_or_else(astray)?;
+    Ok(Leak {
+        again: house.matrix.cell(held.1, held.2).has(held.0),
+        steps: done,
+        held,
+    })
+}
+
+/// The proofs exclude this; should it be seen all the same, nothing is told that was not carried out.
+fn astray() -> Failure {
+    Failure::said(
+        "the judge's steps cannot be carried out",
+        "this is a fault of the program: please report it with the file",
+    )
+}
+
+/// What stands in the way of a verdict: for 22 the rules of several steps, for 23 the names.
+pub fn obstacle(house: &House, words: &Words, refusal: u8) -> Option<String> {
+    match refusal {
+        21 => Some(format!(
+            "the file has {}, from 0 on",
+            count(house.rights, "right")
+        )),
+        22 => {
+            let rules = long_rules(house).into_iter().map(|rule| {
+                let steps = count(house.rules[rule].steps.len(), "step");
+                format!("{} (rule {rule}) has {steps}", words.rule(rule))
+            });
+            Some(rules.collect::<Vec<String>>().join(", "))
+        }
+        23 => {
+            let names = house.matrix.names().len();
+            Some(format!(
+                "{names} names exist; the judge takes {JUDGED_NAMES}"
+            ))
+        }
+        _ => None,
+    }
+}
+
+/// The rules of more than one step.
+pub fn long_rules(house: &House) -> Vec<usize> {
+    let long = |rule: &usize| house.rules[*rule].steps.len() > 1;
+    (0..house.rules.len()).filter(long).collect()
+}

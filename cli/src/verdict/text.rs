@@ -1,0 +1,98 @@
+//! Verdicts for people.
+
+use super::{obstacle, Leak, Ruling, Verdict};
+use crate::count::count;
+use crate::input::Content;
+use crate::refusals;
+use crate::story::{self, Done};
+use crate::terminal::{padded, width, Style};
+use crate::words::Words;
+
+/// The verdicts, one below the other, with the steps of those that are unsafe.
+pub fn lines(content: &Content, verdicts: &[Verdict], style: Style) -> String {
+    let rights = verdicts
+        .iter()
+        .map(|one| content.words.right(usize::from(one.right)));
+    let rights: Vec<String> = rights.collect();
+    let margin = rights.iter().map(|right| width(right)).max().unwrap_or(0);
+    let mut text = String::new();
+    for (verdict, right) in verdicts.iter().zip(&rights) {
+        let word = match &verdict.ruling {
+            Ruling::Safe(_) => style.good("SAFE   "),
+            Ruling::Unsafe(_) => style.bad("UNSAFE "),
+            Ruling::Refused(_) => style.warn("REFUSED"),
+        };
+        let right = padded(right, margin);
+        text += &format!(
+            "{}  {word}  {}\n",
+            style.strong(&right),
+            summary(content, verdict)
+        );
+        if let Ruling::Unsafe(leak) = &verdict.ruling {
+            for line in steps(&content.words, &leak.steps) {
+                text += &format!("  {line}\n");
+            }
+            text += &format!("  {}\n", outcome(&content.words, leak));
+        }
+    }
+    text
+}
+
+/// What a verdict comes to, in one line.
+pub fn summary(content: &Content, verdict: &Verdict) -> String {
+    match &verdict.ruling {
+        Ruling::Safe(cells) => format!(
+            "{}; no run of the rules enters it into a cell that lacks it",
+            holders(cells.len())
+        ),
+        Ruling::Unsafe(leak) => {
+            let steps = count(leak.steps.len(), "step");
+            format!("{steps}, one way of perhaps many:")
+        }
+        Ruling::Refused(refusal) => {
+            let meaning = refusals::of(*refusal).meaning;
+            let why = obstacle(&content.house, &content.words, *refusal);
+            let why = why.map_or(String::new(), |why| format!(": {why}"));
+            format!("{refusal}: {meaning}{why}")
+        }
+    }
+}
+
+fn holders(cells: usize) -> String {
+    match cells {
+        0 => "no cell holds it yet".to_string(),
+        1 => "1 cell holds it already".to_string(),
+        n => format!("{n} cells hold it already"),
+    }
+}
+
+/// Steps, numbered from 1, each with what it did.
+pub fn steps(words: &Words, steps: &[Done]) -> Vec<String> {
+    let calls: Vec<String> = steps
+        .iter()
+        .map(|done| story::call(words, done.step))
+        .collect();
+    let margin = calls.iter().map(|call| width(call)).max().unwrap_or(0);
+    let digits = steps.len().to_string().len();
+    let lines = steps.iter().zip(calls).enumerate();
+    lines
+        .map(|(i, (done, call))| {
+            let number = format!("{:>digits$}", i + 1);
+            format!(
+                "{number}. {}  {}",
+                padded(&call, margin),
+                story::sentence(words, &done.acts)
+            )
+        })
+        .collect()
+}
+
+/// Which right came into which cell.
+pub fn outcome(words: &Words, leak: &Leak) -> String {
+    let (right, subject, object) = leak.held;
+    let (right, cell) = (words.right(right), words.cell(subject, object));
+    match leak.again {
+        true => format!("So {right} comes into {cell} again, after it was taken from there."),
+        false => format!("So {right} comes into {cell}, which lacked it."),
+    }
+}

@@ -1,0 +1,74 @@
+/*
+ * A table in memory, its verdict, and the leak replayed and carried out. It prints:
+ *
+ *   accepted
+ *   unsafe after 1 step: rule 0 with 0 0 2
+ *   replayed: leaks at step 0
+ *   run: cell (0, 2) held 1, and holds 3
+ *   run with names 1 0 2: refused 14
+ *
+ * The table is that of docs/FORMAT.md: two rights; Ada (0) and Ben (1) are subjects, and the shade (2) is an object on which Ada
+ * has right 0; by rule 0 (a, b, c), who has right 0 on c may enter right 1 into any b's cell of c.
+ */
+#include "tugcaphi.h"
+
+#include <stdio.h>
+#include <string.h>
+
+enum { KINDS = 14, CELLS = KINDS + 32, RULE = CELLS + 1024, LENGTH = RULE + 10 };
+
+static void table(uint8_t file[LENGTH])
+{
+    static const uint8_t head[KINDS] = {
+        2, 3,                             /* rights, pairs */
+        KINDS, 0, 32, 0,                  /* kinds: where, how long; low byte first */
+        CELLS, 0, 0, 4,                   /* cells */
+        RULE & 255, RULE >> 8, 10, 0,     /* rule 0 */
+    };
+    static const uint8_t rule[10] = {
+        3, 1, 1,                          /* blanks, conditions, steps */
+        0, 0, 2,                          /* right 0 in (a, c) */
+        1, 1, 1, 2,                       /* enter right 1 into (b, c) */
+    };
+    memset(file, 0, LENGTH);
+    memcpy(file, head, sizeof head);
+    file[KINDS + 0] = 2;
+    file[KINDS + 1] = 2;
+    file[KINDS + 2] = 1;
+    file[CELLS + 32 * 0 + 2] = 1 << 0;
+    memcpy(file + RULE, rule, sizeof rule);
+}
+
+int main(void)
+{
+    static uint8_t file[LENGTH], steps[TUGCAPHI_BUFFER];
+    const uint8_t right = 1;
+    const uint8_t *cell = file + CELLS + 32 * 0 + 2;
+    uint64_t count, at;
+    uint8_t answer, before;
+
+    table(file);
+    if ((answer = access_check(file, LENGTH)) != TUGCAPHI_ACCEPTED) {
+        printf("refused %d\n", answer);
+        return 2;
+    }
+    printf("accepted\n");
+
+    answer = access_judge(file, LENGTH, right, steps, sizeof steps, &count);
+    if (answer != TUGCAPHI_UNSAFE) {
+        printf(answer == TUGCAPHI_SAFE ? "safe\n" : "refused %d\n", answer);
+        return answer == TUGCAPHI_SAFE ? 0 : 2;
+    }
+    printf("unsafe after %d step: rule %d with %d %d %d\n", (int)count, steps[0], steps[1], steps[2], steps[3]);
+
+    answer = access_replay(file, LENGTH, steps, TUGCAPHI_STEP * count, right, &at);
+    printf(answer == TUGCAPHI_LEAK ? "replayed: leaks at step %d\n" : "replayed: no leak\n", (int)at);
+
+    before = *cell;
+    if (access_run(file, LENGTH, steps[0], steps[1], steps[2], steps[3], steps[4]) == TUGCAPHI_DONE)
+        printf("run: cell (0, 2) held %d, and holds %d\n", before, *cell);
+
+    /* Ben does not have right 0. */
+    printf("run with names 1 0 2: refused %d\n", access_run(file, LENGTH, 0, 1, 0, 2, 255));
+    return 0;
+}

@@ -1,0 +1,104 @@
+/*
+ * Tugcaphi: an access matrix after Harrison, Ruzzo and Ullman, and the judge of its leaks, as a library.
+ *
+ * Four calls on bytes in memory. They open no file, keep nothing between calls, allocate nothing and print nothing. What each
+ * answers and leaves is proved, for every input: docs/PROVED.md says what that means and what it rests on. docs/FORMAT.md has
+ * the house file byte by byte, docs/REFUSALS.md every number by which a call is refused.
+ *
+ * The library needs memcpy and memset of C's and nothing else. In the repository it is target/staticlib/libexports.a, and
+ * `install` puts it into a prefix as libtugcaphi.a:
+ *
+ *     cc example.c -I include -L target/staticlib -l exports
+ *     cc example.c -I PREFIX/include -L PREFIX/lib -l tugcaphi
+ *
+ * What every call promises
+ *
+ * - It ends, whatever it is given, and reads and writes nothing but what it is lent.
+ * - Any bytes are taken as a file, a trace or a buffer, and any number as a rule, a name or a right. What is wrong with them is
+ *   the answer: a number of docs/REFUSALS.md, 1 to 9 for the file, 11 to 15 and 31 for a rule run or a trace, 21 to 24 for a
+ *   question to the judge. The first one that applies is given, in the order of that page.
+ * - Refused, it changes no byte of a file or a buffer.
+ *
+ * What the caller must see to; no call can test it
+ *
+ * - A pointer is not null and points to as many bytes as its length says, for the whole call; a length of 0 is fine.
+ * - What is lent for writing overlaps with nothing else that is lent: the file of access_run; the buffer and the number of
+ *   access_judge; the number of access_replay. The number is aligned as a uint64_t is. What is lent for reading alone (const)
+ *   may be one and the same memory.
+ * - Nobody writes to what is lent while the call is at work, and nobody reads what is lent for writing. Calls of several threads
+ *   at once, each with memory of its own or with memory that is only read, do not touch each other.
+ * - There is stack for the call: see TUGCAPHI_STACK.
+ */
+#ifndef TUGCAPHI_H
+#define TUGCAPHI_H
+
+#include <stddef.h>
+#include <stdint.h>
+
+#ifdef __cplusplus
+extern "C" {
+#endif
+
+/* The answers that are no refusals. */
+#define TUGCAPHI_ACCEPTED 0 /* access_check */
+#define TUGCAPHI_DONE 0     /* access_run */
+#define TUGCAPHI_NO_LEAK 0  /* access_replay */
+#define TUGCAPHI_LEAK 255
+#define TUGCAPHI_SAFE 0     /* access_judge */
+#define TUGCAPHI_UNSAFE 255
+
+/* A step of a trace: the rule's number and four names, 255 in the positions that the rule does not use. */
+#define TUGCAPHI_STEP 5
+
+/* A buffer of so many bytes is long enough for every judgement: 5 * (8 * 31 * 32 + 4). */
+#define TUGCAPHI_BUFFER 39700
+
+/*
+ * Bytes of stack that are enough for each call. This is measured and not proved: access_check used 6,000 bytes, access_run and
+ * access_replay 12,400, access_judge 23,500. Each ran in a thread whose stack of 1 MiB was painted with a pattern before, and
+ * what had lost its paint afterwards was counted, less what an idle thread uses; on all files of the benchmark and 1,500
+ * generated ones, for all rights. The files made no difference: the calls hold arrays of fixed size alone, and recur at most
+ * once for each blank of a rule. The tests measure it again, and fail above this number.
+ */
+#define TUGCAPHI_STACK 32768
+
+/*
+ * Whether a file is accepted: 0, or the refusal of whoever wrote it, 1 to 9.
+ */
+uint8_t access_check(const uint8_t *file, size_t length);
+
+/*
+ * Runs rule number `rule` with the names a0 to a3; positions that the rule does not use must hold 255.
+ *
+ * 0: all its steps were carried out, in the file, whose kinds and cells alone have changed; it is still accepted, with the
+ * same rules. Else the refusal, 1 to 9 or 11 to 15, and the file is as it was.
+ */
+uint8_t access_run(uint8_t *file, size_t length, uint8_t rule, uint8_t a0, uint8_t a1, uint8_t a2, uint8_t a3);
+
+/*
+ * Carries out the steps of a trace, one after the other, on a copy of the file's state, and tells whether one of them leaks the
+ * right: enters it into a cell that lacks it.
+ *
+ * 255: step number *step, from 0, is the first to leak, and none before it is refused. 0: all steps were carried out, and none
+ * leaks; *step is 0. Else the refusal: 11 to 15 with the number of the refused step in *step, before which none leaks; 1 to 9,
+ * 21 and 31 with 0.
+ */
+uint8_t access_replay(const uint8_t *file, size_t length, const uint8_t *trace, size_t trace_length, uint8_t right,
+                      uint64_t *step);
+
+/*
+ * Whether any run of the file's rules, however long and with whatever new names, can leak the right.
+ *
+ * 255, unsafe: the first 5 * *steps bytes of the buffer are a run that does, from the file as it is: no step of it is refused,
+ * and it leaks at its last step and nowhere sooner. 0, safe: no run leaks; the first 5 * *steps bytes of the buffer are the
+ * steps by which the judge found this out. The rest of the buffer keeps its bytes. Else the refusal, 1 to 9 or 21 to 24;
+ * *steps is 0.
+ */
+uint8_t access_judge(const uint8_t *file, size_t length, uint8_t right, uint8_t *buffer, size_t buffer_length,
+                     uint64_t *steps);
+
+#ifdef __cplusplus
+}
+#endif
+
+#endif

@@ -1,0 +1,43 @@
+//! The front program `tugcaphi`: transcripts of every command, exit status and
+//! mistake in a table, random tables there and back, the places of refusals,
+//! steps in words against a replay, pictures, pages and answers for programs,
+//! and the examples in the docs. Arguments: the seed, the number of random
+//! tables. The executable is `../target/cli/release/tugcaphi`, or TUGCAPHI names
+//! it. With FRONT_BLESS set the transcripts are written anew; read the difference.
+
+mod back;
+mod blocks;
+mod coverage;
+mod execute;
+mod json;
+mod pages;
+mod places;
+mod schema;
+mod stories;
+mod tables;
+mod terminals;
+mod transcripts;
+mod wording;
+mod writing;
+mod xml;
+
+use reference::report::{Arguments, Report};
+
+/// As many random tables as are promised.
+const TABLES: u64 = 20_000;
+
+fn main() {
+    let arguments = Arguments::read("front");
+    let mut report = Report::default();
+    let seed = arguments.seed;
+    let told = transcripts::run(&mut report);
+    coverage::run(&mut report, &told);
+    blocks::run(&mut report);
+    tables::run(&mut report, seed, arguments.number.unwrap_or(TABLES));
+    back::run(&mut report, seed);
+    places::run(&mut report, seed);
+    stories::run(&mut report, seed);
+    pages::run(&mut report, seed);
+    terminals::run(&mut report);
+    report.finish();
+}

@@ -1,0 +1,207 @@
+//! Pictures and pages: well-formed, everything inside, every step in words, and
+//! nothing from anywhere else.
+
+use super::stories::{contents, single};
+use super::wording::Wording;
+use super::xml::{parse, Element, Node};
+use reference::generate::{chain, large, lively, small};
+use reference::random::Random;
+use reference::report::Report;
+use std::fs;
+use tugcaphi::input::Content;
+use tugcaphi::verdict::{judge, Ruling, Verdict};
+use tugcaphi::{picture, report, story};
+
+pub fn run(report: &mut Report, seed: u64) {
+    let mut cases = examples();
+    let mut random = Random::new(seed ^ 0x5F6);
+    for i in 0..120 {
+        let draft = single(&mut random, |random| match i % 4 {
+            0 => large(random).0,
+            1 => chain(random).0,
+            2 => small(random),
+            _ => lively(random),
+        });
+        let wording = Wording::any(&mut random, &draft);
+        cases.push(contents(&draft.file(), &wording));
+    }
+    report.group(
+        "pictures are well-formed and tell every step",
+        126,
+        |group| {
+            for (content, verdicts) in &cases {
+                let svg = picture::svg("a <table> & \"more\"", content, verdicts);
+                let said = picture_held(&svg, content, verdicts);
+                group.input(said.is_ok(), || format!("{said:?}"));
+            }
+        },
+    );
+    report.group("pages are well-formed and tell everything", 126, |group| {
+        for (content, verdicts) in &cases {
+            let page = report::page("a <table> & \"more\"", content, verdicts);
+            let said = page_held(&page, content, verdicts);
+            group.input(said.is_ok(), || format!("{said:?}"));
+        }
+    });
+}
+
+fn examples() -> Vec<(Content, Vec<Verdict>)> {
+    let entries = fs::read_dir("../tables").expect("the example tables");
+    let paths = entries.filter_map(|entry| entry.ok().map(|entry| entry.path()));
+    let mut cases = Vec::new();
+    for path in paths.filter(|path| path.extension().is_some_and(|e| e == "table")) {
+        let text = fs::read(&path).expect("an example table");
+        let table = tugcaphi::table::read(&text).expect("an example table");
+        let file = tugcaphi::house::encode::encode(&table.house);
+        let content = Content {
+            house: table.house,
+            words: table.words,
+        };
+        let verdicts = (0..file[0]).map(|right| judge(&file, &content.house, right));
+        let verdicts = verdicts
+            .collect::<Result<_, _>>()
+            .expect("steps that can be done");
+        cases.push((content, verdicts));
+    }
+    cases
+}
+
+fn picture_held(svg: &str, content: &Content, verdicts: &[Verdict]) -> Result<(), String> {
+    let root = parse(svg)?;
+    is(root.name == "svg", || "no svg".into())?;
+    let size = |name: &str| root.attribute(name).and_then(|value| value.parse().ok());
+    let (width, height): (i64, i64) = size("width").zip(size("height")).ok_or("no size")?;
+    let view = format!("0 0 {width} {height}");
+    is(root.attribute("viewBox") == Some(&view), || {
+        "no viewBox".into()
+    })?;
+    inside(&root, (0, 0), (width, height))?;
+    let texts: Vec<String> = root.named("tspan").iter().map(|e| e.text()).collect();
+    for verdict in verdicts {
+        let right = content.words.right(usize::from(verdict.right));
+        is(texts.contains(&right), || {
+            format!("the right {right} is not there")
+        })?;
+        if let Ruling::Unsafe(leak) = &verdict.ruling {
+            for done in leak.steps.iter().take(30).chain(leak.steps.last()) {
+                let call = story::call(&content.words, done.step);
+                is(texts.contains(&call), || {
+                    format!("the step {call} is not there")
+                })?;
+            }
+        }
+    }
+    local(&root)
+}
+
+/// Every shape and every beginning of a text lies inside the picture.
+fn inside(element: &Element, (x, y): (i64, i64), size: (i64, i64)) -> Result<(), String> {
+    for (corner_x, corner_y) in corners(element) {
+        let (at_x, at_y) = (x + corner_x, y + corner_y);
+        let in_it = (0..=size.0).contains(&at_x) && (0..=size.1).contains(&at_y);
+        is(in_it, || {
+            format!("a {} at {at_x} {at_y} of {size:?}", element.name)
+        })?;
+    }
+    let moved = element.attribute("transform").and_then(|text| {
+        let inner = text.strip_prefix("translate(")?.strip_suffix(')')?;
+        let (x, y) = inner.split_once(' ')?;
+        Some((x.parse::<i64>().ok()?, y.parse::<i64>().ok()?))
+    });
+    let (by_x, by_y) = moved.unwrap_or((0, 0));
+    for child in &element.children {
+        if let Node::Element(child) = child {
+            inside(child, (x + by_x, y + by_y), size)?;
+        }
+    }
+    Ok(())
+}
+
+/// The outermost points of a shape.
+fn corners(element: &Element) -> Vec<(i64, i64)> {
+    let number = |name: &str| -> i64 {
+        let value = element.attribute(name);
+        value.and_then(|value| value.parse().ok()).unwrap_or(0)
+    };
+    let (x, y, radius) = (number("x"), number("y"), number("r"));
+    let (middle_x, middle_y) = (number("cx"), number("cy"));
+    match element.name.as_str() {
+        "rect" => vec![(x, y), (x + number("width"), y + number("height"))],
+        "circle" => vec![
+            (middle_x - radius, middle_y - radius),
+            (middle_x + radius, middle_y + radius),
+        ],
+        "text" => vec![(x, y)],
+        "line" => vec![(number("x1"), number("y1")), (number("x2"), number("y2"))],
+        _ => Vec::new(),
+    }
+}
+
+fn page_held(page: &str, content: &Content, verdicts: &[Verdict]) -> Result<(), String> {
+    let root = parse(page)?;
+    let begins = page.starts_with("<!doctype html>");
+    is(root.name == "html" && begins, || "no page".into())?;
+    let titles = root.named("title");
+    let titled = |title: &&Element| title.text().contains("a <table> & \"more\"");
+    is(titles.iter().any(titled), || "another title".into())?;
+    let mut pictures = 0;
+    for verdict in verdicts {
+        verdict_held(&root, content, verdict)?;
+        pictures += usize::from(matches!(verdict.ruling, Ruling::Unsafe(_)));
+    }
+    is(root.named("svg").len() == pictures, || {
+        "a picture for each unsafe right".into()
+    })?;
+    local(&root)
+}
+
+/// A verdict has its row, and an unsafe one all its steps.
+fn verdict_held(root: &Element, content: &Content, verdict: &Verdict) -> Result<(), String> {
+    let words = &content.words;
+    let right = words.right(usize::from(verdict.right));
+    let (word, steps) = match &verdict.ruling {
+        Ruling::Safe(_) => ("SAFE", &[][..]),
+        Ruling::Unsafe(leak) => ("UNSAFE", leak.steps.as_slice()),
+        Ruling::Refused(_) => ("REFUSED", &[][..]),
+    };
+    let begin = format!("{right}{word}");
+    let rows = root.named("tr");
+    let row = |row: &&Element| row.text().starts_with(&begin);
+    is(rows.iter().any(row), || format!("no row {begin}"))?;
+    let told: Vec<String> = root.named("li").iter().map(|item| item.text()).collect();
+    for done in steps {
+        let call = story::call(words, done.step);
+        let line = format!("{call} {}", story::sentence(words, &done.acts));
+        is(told.contains(&line), || format!("no step {line}"))?;
+    }
+    Ok(())
+}
+
+/// Nothing is fetched from elsewhere and nothing runs.
+fn local(root: &Element) -> Result<(), String> {
+    for element in root.all() {
+        let fetching = [
+            "script", "link", "img", "image", "use", "iframe", "object", "a",
+        ];
+        is(!fetching.contains(&element.name.as_str()), || {
+            format!("a {}", element.name)
+        })?;
+        for (name, _) in &element.attributes {
+            let running = name.starts_with("on") || name.contains("href") || name == "src";
+            is(!running, || format!("the attribute {name}"))?;
+        }
+        let style = element.name == "style";
+        let text = if style { element.text() } else { String::new() };
+        is(!text.contains("url(") && !text.contains("@import"), || {
+            "a style that fetches".into()
+        })?;
+    }
+    Ok(())
+}
+
+fn is(good: bool, wrong: impl FnOnce() -> String) -> Result<(), String> {
+    match good {
+        true => Ok(()),
+        false => Err(wrong()),
+    }
+}

@@ -1,0 +1,353 @@
+//! The steps in words against a replay: each line of a printed verdict is read
+//! back into numbers, is the step that the judge wrote, and does what it says on
+//! the reference's machine; the right comes in at the last step and not sooner.
+
+use super::execute::Folder;
+use super::wording::Wording;
+use reference::file;
+use reference::generate::{chain, large, lively, small, Draft};
+use reference::machine::run_file;
+use reference::random::Random;
+use reference::replay::{replay, LEAK};
+use reference::report::{Group, Report};
+use reference::table::file as file_of;
+use std::collections::BTreeMap;
+use std::fs;
+use tugcaphi::input::Content;
+use tugcaphi::library::{self, Judgement};
+use tugcaphi::terminal::Style;
+use tugcaphi::verdict::{judge, text::lines, Verdict};
+use tugcaphi::words::{RuleWords, Words};
+
+pub fn run(report: &mut Report, seed: u64) {
+    report.group("steps in words of the example tables", 6, |group| {
+        let folder = Folder::new("stories").with_examples();
+        for entry in fs::read_dir("../tables").expect("the example tables") {
+            let path = entry.expect("an example table").path();
+            if path.extension().is_none_or(|ending| ending != "table") {
+                continue;
+            }
+            let text = fs::read_to_string(&path).unwrap_or_default();
+            let table = tugcaphi::table::read(text.as_bytes()).expect("an example table");
+            let name = path.file_name().unwrap_or_default().to_string_lossy();
+            let words = ["judge".to_string(), format!("tables/{name}")];
+            let said = folder.run(&words, None);
+            let printed = String::from_utf8_lossy(&said.out).into_owned();
+            let file = file_of(&text).expect("an example table");
+            held(group, &table.words, &file, &printed);
+        }
+    });
+    let mut random = Random::new(seed ^ 0x5708);
+    report.group("steps in words of random tables", 400, |group| {
+        for i in 0..400 {
+            let draft = single(&mut random, |random| match i % 4 {
+                0 => large(random).0,
+                1 => chain(random).0,
+                2 => small(random),
+                _ => lively(random),
+            });
+            let file = draft.file();
+            let wording = Wording::any(&mut random, &draft);
+            let (content, verdicts) = contents(&file, &wording);
+            let printed = lines(&content, &verdicts, Style::PLAIN);
+            held(group, &content.words, &file, &printed);
+        }
+    });
+}
+
+/// A draft with rules of one step and at most 30 names, as the judge takes it.
+pub fn single(random: &mut Random, mut draft: impl FnMut(&mut Random) -> Draft) -> Draft {
+    loop {
+        let draft = draft(random);
+        let short = draft.rules.iter().all(|rule| rule[2] == 1);
+        if short && draft.kinds.iter().filter(|&&kind| kind > 0).count() <= 30 {
+            return draft;
+        }
+    }
+}
+
+fn words_of(wording: &Wording) -> Words {
+    let rules = wording.rules.iter().zip(&wording.blanks);
+    Words {
+        plain: false,
+        rights: wording.rights.clone(),
+        // Every third name has no word, and is told by its number.
+        names: std::array::from_fn(|i| Some(wording.names[i].clone()).filter(|_| i % 3 != 2)),
+        rules: rules
+            .map(|(rule, blanks)| RuleWords {
+                rule: rule.clone(),
+                blanks: blanks.clone(),
+            })
+            .collect(),
+    }
+}
+
+/// What a file says with these words, and the verdicts on all its rights.
+pub fn contents(file: &[u8], wording: &Wording) -> (Content, Vec<Verdict>) {
+    let content = Content {
+        house: tugcaphi::house::decode::decode(file),
+        words: words_of(wording),
+    };
+    let verdicts = (0..file[0]).map(|right| judge(file, &content.house, right));
+    let verdicts = verdicts
+        .collect::<Result<_, _>>()
+        .expect("steps that can be done");
+    (content, verdicts)
+}
+
+/// Holds every printed verdict to the file.
+fn held(group: &mut Group, words: &Words, file: &[u8], printed: &str) {
+    let reading = Reading::new(words);
+    let mut verdicts: Vec<Vec<&str>> = Vec::new();
+    for line in printed.lines() {
+        match line.starts_with("  ") {
+            true => verdicts
+                .last_mut()
+                .expect("a verdict before its steps")
+                .push(line),
+            false => verdicts.push(vec![line]),
+        }
+    }
+    group.demand(verdicts.len() == usize::from(file[0]), || {
+        format!("verdicts: {printed}")
+    });
+    for (right, verdict) in verdicts.iter().enumerate() {
+        let said = reading.verdict(right, verdict, file);
+        group.input(said.is_ok(), || format!("{said:?} in {verdict:?}"));
+    }
+}
+
+/// What the words stand for.
+struct Reading {
+    rights: BTreeMap<String, usize>,
+    names: BTreeMap<String, usize>,
+    rules: BTreeMap<String, usize>,
+}
+
+impl Reading {
+    fn new(words: &Words) -> Reading {
+        let name = |(i, word): (usize, &Option<String>)| match word {
+            Some(word) => (word.clone(), i),
+            None => (i.to_string(), i),
+        };
+        let numbered = |words: Vec<&String>| {
+            let words = words.into_iter().enumerate();
+            words.map(|(i, word)| (word.clone(), i)).collect()
+        };
+        Reading {
+            rights: numbered(words.rights.iter().collect()),
+            names: words.names.iter().enumerate().map(name).collect(),
+            rules: numbered(words.rules.iter().map(|rule| &rule.rule).collect()),
+        }
+    }
+
+    fn verdict(&self, right: usize, lines: &[&str], file: &[u8]) -> Result<(), String> {
+        let mut head = Line::new(lines[0]);
+        let asked = self.find(&self.rights, &head.word()?)?;
+        let verdict = head.word()?;
+        if asked != right {
+            return Err(format!("right {asked} in place of {right}"));
+        }
+        let mut buffer = vec![0; 50_000];
+        let answer = library::judge(file, right as u8, &mut buffer);
+        match (verdict.as_str(), answer) {
+            ("SAFE", Judgement::Safe(_)) => holding(lines[0], right, file),
+            ("UNSAFE", Judgement::Unsafe(steps)) => {
+                let trace = &buffer[..5 * steps as usize];
+                self.steps(right, &lines[1..], file, trace)
+            }
+            (verdict, answer) => Err(format!("{verdict}, the library says {answer:?}")),
+        }
+    }
+
+    /// The steps are the judge's, each does what is said of it, and the last one leaks.
+    fn steps(&self, right: usize, lines: &[&str], file: &[u8], trace: &[u8]) -> Result<(), String> {
+        let (last, steps) = lines.split_last().ok_or("no steps")?;
+        let mut state = file.to_vec();
+        let mut told = Vec::new();
+        let mut entered = None;
+        for (i, line) in steps.iter().enumerate() {
+            let mut words = Line::new(line.trim_start());
+            words.expect(&format!("{}.", i + 1))?;
+            let step = self.call(&mut words)?;
+            let before = state.clone();
+            let [rule, a, b, c, d] = step;
+            let refusal = run_file(&mut state, rule, [a, b, c, d]);
+            let effect = difference(&before, &state);
+            let said = self.clause(&mut words)?;
+            if refusal != 0 || effect != vec![said.clone()] {
+                return Err(format!(
+                    "step {}: {refusal}, {effect:?}, said {said:?}",
+                    i + 1
+                ));
+            }
+            told.extend(step);
+            entered = Some(said);
+        }
+        let mut words = Line::new(last.trim_start());
+        words.expect("So")?;
+        let came = self.find(&self.rights, &words.word()?)?;
+        words.expect("comes")?;
+        words.expect("into")?;
+        let cell = self.cell(&mut words)?;
+        if entered != Some(Effect::Enter(came, cell.0, cell.1)) || came != right {
+            return Err(format!("{entered:?} is not what came in at the end"));
+        }
+        let (code, step) = replay(file, &told, right as u8);
+        if told != trace || code != LEAK || step as usize + 1 != steps.len() {
+            return Err(format!(
+                "replayed {code} at {step}, told {told:?}, trace {trace:?}"
+            ));
+        }
+        Ok(())
+    }
+
+    fn find(&self, words: &BTreeMap<String, usize>, word: &str) -> Result<usize, String> {
+        words
+            .get(word)
+            .copied()
+            .ok_or_else(|| format!("nothing is called {word:?}"))
+    }
+
+    /// `lend (Ada, Ben)` as five bytes.
+    fn call(&self, line: &mut Line) -> Result<[u8; 5], String> {
+        let mut step = [255; 5];
+        step[0] = self.find(&self.rules, &line.word()?)? as u8;
+        line.expect("(")?;
+        for actual in &mut step[1..] {
+            *actual = self.find(&self.names, &line.word()?)? as u8;
+            if !line.passes(",") {
+                break;
+            }
+        }
+        line.expect(")")?;
+        Ok(step)
+    }
+
+    fn cell(&self, line: &mut Line) -> Result<(usize, usize), String> {
+        line.expect("(")?;
+        let subject = self.find(&self.names, &line.word()?)?;
+        line.expect(",")?;
+        let object = self.find(&self.names, &line.word()?)?;
+        line.expect(")")?;
+        Ok((subject, object))
+    }
+
+    fn clause(&self, line: &mut Line) -> Result<Effect, String> {
+        let verb = line.word()?;
+        if verb == "creates" {
+            line.expect("the")?;
+            let kind = if line.word()? == "subject" { 2 } else { 1 };
+            return Ok(Effect::Kind(self.find(&self.names, &line.word()?)?, kind));
+        }
+        let right = self.find(&self.rights, &line.word()?)?;
+        line.expect(if verb == "enters" { "into" } else { "from" })?;
+        let (subject, object) = self.cell(line)?;
+        match verb.as_str() {
+            "enters" => Ok(Effect::Enter(right, subject, object)),
+            "deletes" => Ok(Effect::Delete(right, subject, object)),
+            _ => Err(format!("no verb: {verb}")),
+        }
+    }
+}
+
+#[derive(Clone, Debug, PartialEq)]
+enum Effect {
+    Enter(usize, usize, usize),
+    Delete(usize, usize, usize),
+    /// A name that has another kind.
+    Kind(usize, u8),
+}
+
+/// What is otherwise in the second file, by its bytes.
+fn difference(before: &[u8], after: &[u8]) -> Vec<Effect> {
+    let kinds = file::kinds_offset(before);
+    let mut effects = Vec::new();
+    for name in 0..32 {
+        if before[kinds + name] != after[kinds + name] {
+            effects.push(Effect::Kind(name, after[kinds + name]));
+        }
+    }
+    for cell in 0..1024 {
+        let (old, new) = (before[kinds + 32 + cell], after[kinds + 32 + cell]);
+        for right in (0..8).filter(|right| (old ^ new) >> right & 1 == 1) {
+            let (subject, object) = (cell / 32, cell % 32);
+            effects.push(match new >> right & 1 {
+                1 => Effect::Enter(right, subject, object),
+                _ => Effect::Delete(right, subject, object),
+            });
+        }
+    }
+    effects
+}
+
+/// SAFE tells how many cells hold the right.
+fn holding(line: &str, right: usize, file: &[u8]) -> Result<(), String> {
+    let cells = file::kinds_offset(file) + 32;
+    let count = file[cells..cells + 1024]
+        .iter()
+        .filter(|&&cell| cell >> right & 1 == 1)
+        .count();
+    let wanted = match count {
+        0 => "  no cell holds it yet;".to_string(),
+        1 => "  1 cell holds it already;".to_string(),
+        n => format!("  {n} cells hold it already;"),
+    };
+    match line.contains(&wanted) {
+        true => Ok(()),
+        false => Err(format!("{count} cells hold it: {line}")),
+    }
+}
+
+/// The words of a printed line; quotes and escapes as in a table.
+struct Line<'a> {
+    rest: &'a str,
+}
+
+impl Line<'_> {
+    fn new(rest: &str) -> Line<'_> {
+        Line { rest }
+    }
+
+    fn passes(&mut self, text: &str) -> bool {
+        self.rest = self.rest.trim_start();
+        match self.rest.strip_prefix(text) {
+            Some(rest) => {
+                self.rest = rest;
+                true
+            }
+            None => false,
+        }
+    }
+
+    fn expect(&mut self, text: &str) -> Result<(), String> {
+        match self.passes(text) {
+            true => Ok(()),
+            false => Err(format!("no {text} at: {}", self.rest)),
+        }
+    }
+
+    fn word(&mut self) -> Result<String, String> {
+        self.rest = self.rest.trim_start();
+        let Some(quoted) = self.rest.strip_prefix('"') else {
+            let end = self
+                .rest
+                .find([' ', ',', ')', '(', ':'])
+                .unwrap_or(self.rest.len());
+            let (word, rest) = self.rest.split_at(end);
+            self.rest = rest;
+            return Ok(word.to_string());
+        };
+        let mut word = String::new();
+        let mut characters = quoted.chars();
+        loop {
+            match characters.next().ok_or("an open quote")? {
+                '"' => break,
+                '\\' => word.extend(characters.next()),
+                character => word.push(character),
+            }
+        }
+        self.rest = characters.as_str();
+        Ok(word)
+    }
+}
