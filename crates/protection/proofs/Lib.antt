@@ -1,4 +1,5 @@
 pub mod Model
+pub mod Names
 pub mod Calls
 pub mod Closed
 pub mod First
@@ -9,4 +10,5 @@ pub mod Fixpoint
 pub mod ClosingSearch
 pub mod Sums
 pub mod Bound
+pub mod Consequences
 pub mod Safety
