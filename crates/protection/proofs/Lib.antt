@@ -1,5 +1,6 @@
-pub mod Model
 pub mod Names
+pub mod Model
+pub mod Widening
 pub mod Calls
 pub mod Closed
 pub mod First

@@ -22,7 +22,7 @@ use Rattle.protection.specs.Paper.{subject-is-object}
 use Rattle.protection.proofs.Calls.{Singles, carried-small, call-done}
 use Rattle.protection.proofs.Closed.{Closed, closed-safe}
 use Rattle.protection.proofs.Rounds.{visit-cases, round-quiet, keep-rounds, rounds-end, rounds-more}
-use Rattle.protection.proofs.Names.{last-unbounded}
+use Rattle.protection.proofs.Widening.{last-unbounded}
 use Rattle.protection.proofs.Consequences.{settled-still}
 use Rattle.protection.proofs.Invariant.{Goes, goes-last, Course, course-opened, course-step}
 use Rattle.protection.proofs.Fixpoint.{closed-enters, closed-creates-subject, closed-creates-object}

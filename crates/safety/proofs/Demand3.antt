@@ -17,6 +17,7 @@ use Rattle.protection.specs.Command.{System, Call}
 use Rattle.protection.specs.Execution.{bounded, unbounded}
 use Rattle.protection.specs.Leak.{LeaksLast}
 use Rattle.protection.specs.Judge.{Verdict, judge, Settled}
+use Rattle.protection.proofs.Names.{every-name}
 use Rattle.protection.proofs.Safety.{Taken, rounds-settled, unsafe-steps-bounded, unsafe-steps, safe-never, decides, within-bound}
 use Rattle.matrix.specs.Matrices.{stateOf}
 use Rattle.layout.specs.Refusals.{orElse}
@@ -61,7 +62,7 @@ module _ (S : System) (r : ℕ) (m : State) (K : Taken S m) (b : List ℕ) (fits
   -- of the judge's own answer and buffer
   pub verdict-demand3 : Demand3 S r m b (judgementOf v) (filled (v .steps) b)
   verdict-demand3 = record {
-    every-name = λ x. tt;
+    every-name = every-name;
     unsafe-exactly = (λ t. decides S r m K .0 (subst T (told v .0) t), λ w. subst T (sym (told v .0)) (decides S r m K .1 w));
     safe-exactly = (λ t. safe-never S r m K (subst T (told v .1) t), λ never. subst T (sym (told v .1)) (safe-if (v .unsafe) (λ t. never (v .steps) (unsafe-steps S r m K t .leak))));
     steps-leak = λ t. subst (LeaksLast unbounded S r m) (sym (ap (calls (filled (v .steps) b)) (told v .2) ∙ calls-back (v .steps) (drop (5 * length (v .steps)) b))) (unsafe-steps S r m K (subst T (told v .0) t));

@@ -15,7 +15,7 @@ use Rattle.protection.specs.State.{State}
 use Rattle.protection.specs.Command.{System, Call}
 use Rattle.protection.specs.Execution.{bounded, unbounded, Outcome, refused, done, execute}
 use Rattle.protection.specs.Leak.{after, isRefused, isLeak, leaks, anyRefused, init, LeaksLast}
-use Rattle.protection.proofs.Names.{NamesOfFile, last-unbounded, last-bounded}
+use Rattle.protection.proofs.Widening.{NamesOfFile, last-unbounded, last-bounded}
 use Rattle.layout.specs.File.{rightsOf}
 use Rattle.policy.specs.Refusals.{refusal}
 use Rattle.policy.specs.Contents.{fileState, fileSystem}
