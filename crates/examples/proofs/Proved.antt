@@ -5,13 +5,14 @@ use mathlib.Core.List.{List, [], _∷_}
 use lib.Dec.{eqb}
 use lib.ListN.{length}
 use Rattle.cases.specs.Cases.{pick, turns, each}
-use Rattle.protection.specs.Judge.{lowestAbsent, rounds, count, judge}
+use Rattle.protection.specs.Size.{count}
+use Rattle.protection.specs.Judge.{lowestAbsent, rounds, judge}
 use Rattle.layout.specs.File.{startOf}
 use Rattle.layout.specs.Refusals.{orElse, headerRefusal, pairsRefusal, sizesRefusal}
 use Rattle.commands.specs.Refusals.{conditionFits, operationFits, commandRefusal}
 use Rattle.commands.specs.Contents.{commandOf}
 use Rattle.policy.specs.Refusals.{commandsRefusal, refusal}
-use Rattle.policy.specs.Contents.{commandTable, policyOf}
+use Rattle.policy.specs.Contents.{commandTable, policyOf, fileState, fileSystem}
 use Rattle.update.specs.Files.{fileOutcome, codeOf, rewritten, runCode, runFile}
 use Rattle.safety.specs.Judgement.{callerRefusal, judgeRefusal, fileVerdict, judgementOf, fileJudgement, filled, fileBuffer}
 use Rattle.safety.specs.declared.Judgement.{Judgement}
@@ -22,7 +23,7 @@ use Rattle.examples.proofs.Walk.{walkedRefusal, refusal-walked}
 
 -- ---- what a row claims, with a number z in place of its file's refusal
 abbrev refusalAt : ℕ → List ℕ → ℕ → ℕ → ℕ
-refusalAt z f r n = orElse z (callerRefusal (policyOf f) r n)
+refusalAt z f r n = orElse z (callerRefusal (fileSystem f) (fileState f) r n)
 
 abbrev answerAt : ℕ → List ℕ → ℕ → ℕ → Judgement
 answerAt z f r n = pick (eqb (refusalAt z f r n) 0) (judgementOf (fileVerdict f r)) (Refused (refusalAt z f r n))

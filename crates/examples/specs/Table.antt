@@ -4,7 +4,7 @@ use mathlib.Core.Path.{_≡_}
 use mathlib.Core.List.{List, [], _∷_}
 use lib.ListN.{length}
 use Rattle.protection.specs.Command.{Call}
-use Rattle.update.specs.Files.{FileRun}
+use Rattle.update.specs.Files.{runCode, runFile}
 use Rattle.safety.specs.Judgement.{fileJudgement, fileBuffer}
 use Rattle.safety.specs.declared.Judgement.{Judgement}
 use Rattle.safety.specs.declared.Judgement.the-variants.{Refused, Safe, Unsafe}
@@ -20,15 +20,20 @@ pub data Case : Type 0 where
   -- the rule run on the lent file; its answer, and the file after it
   runs : List ℕ → Call → ℕ → List ℕ → Case
 
--- the two equations of the judge's contract, `Judged`; its third part, demand 3, is one theorem for every input
+-- the two equations of the judge's contract, `Judged`; its other parts are theorems for every input
 pub record FileJudged (f : List ℕ) (r : ℕ) (b : List ℕ) (answer : Judgement) (b' : List ℕ) : Type 0 where
   pub answer-is : answer ≡ fileJudgement f r (length b)
   pub buffer-is : b' ≡ fileBuffer f r b
 
+-- and those of a rule run's, `FileRun`, without demand 2
+pub record FileRan (f : List ℕ) (x : Call) (r : ℕ) (f' : List ℕ) : Type 0 where
+  pub code : r ≡ runCode f x
+  pub file : f' ≡ runFile f x
+
 abbrev pub Holds : Case → Type 0
 Holds (judges f r b answer b') = FileJudged f r b answer b'
 Holds (prints r f out) = out ≡ listing (r ∷ f)
-Holds (runs f x n f') = FileRun f x n f'
+Holds (runs f x n f') = FileRan f x n f'
 
 abbrev pub AllHold : List Case → Type 0
 AllHold [] = Unit {0}

@@ -5,7 +5,8 @@ use lib.ListN.{length}
 use mathlib.Core.Path.{_≡_, refl, sym, ap, _∙_, subst}
 use Rattle.trace.specs.declared.Replay.{Replay}
 use Rattle.trace.specs.declared.Replay.the-variants.{NoLeak, Leak, Refused}
-use Rattle.safety.specs.Judgement.{fileJudgement, judgementCode, stepsWritten, Judged}
+use Rattle.safety.specs.Demand3.{stepsWritten}
+use Rattle.safety.specs.Judgement.{fileJudgement, judgementCode, Judged}
 use Rattle.safety.specs.declared.Judgement.{Judgement}
 use Rattle.safety.specs.declared.Judgement.the-variants.{Refused as Refuses, Safe, Unsafe}
 use Rattle.exports.specs.Boundary.{ReplayAnswer, JudgeAnswer}

@@ -2,87 +2,51 @@
 use Prim.Native.Nat.{ℕ, suc, _+_, _*_, _-_, _≤_, _<_}
 use mathlib.Core.Path.{_≡_, refl, sym, ap, ap₂, _∙_, subst}
 use mathlib.Core.Bool.{Bool, true, false}
-use mathlib.Core.List.{List, [], _∷_, _++_, append-assoc}
+use mathlib.Core.List.{List, [], _∷_}
 use native.Mathlib.Decide.{ℕ-discrete}
 use native.Mathlib.Omega.{arith}
-use borrow.Author.Tests.{lt-ltb, le-ltb, ltb-false, eq-eqb, ne-eqb}
-use lib.Dec.{ltb, leb}
+use borrow.Author.Tests.{lt-ltb, le-ltb}
+use lib.Dec.{ltb}
 use lib.ListN.{length, getD, take, drop, length-append}
-use lib.Seq.{getD-append-add, take-all, length-take-le}
-use Rattle.cases.specs.Cases.{pick, listed, each}
-use Rattle.protection.specs.Limits.{startNames}
+use lib.Seq.{take-all, length-take-le}
+use Rattle.cases.specs.Cases.{pick}
 use Rattle.protection.specs.Command.{Call}
-use Rattle.protection.specs.Judge.{namesOf, stepBound}
-use Rattle.matrix.specs.Matrices.{stateOf}
-use Rattle.layout.specs.Refusals.{orElse}
-use Rattle.policy.specs.Refusals.{refusal}
-use Rattle.policy.specs.Contents.{policyOf, policyRead, fileState, fileSystem, over}
+use Rattle.policy.specs.Contents.{policyOf, policyRead, over}
 use Rattle.policy.specs.declared.Policy.{Policy}
 use Rattle.policy.specs.declared.PolicyRead.{PolicyRead}
 use Rattle.policy.proofs.Laws.{read-refusal, read-policy}
-use Rattle.trace.specs.Traces.{callAt, calls}
-use Rattle.safety.specs.Judgement.{oneStep, boundOf, callerRefusal, judgeRefusal, fileVerdict, judgementOf, fileJudgement, stepsWritten, bytesOf, filled, fileBuffer, Judged}
+use Rattle.trace.specs.Traces.{calls}
+use Rattle.safety.specs.Demand3.{stepsWritten}
+use Rattle.safety.specs.Judgement.{judgeRefusal, fileVerdict, fileJudgement, bytesOf, filled, Judged}
 use Rattle.safety.specs.declared.Judgement.{Judgement}
-use Rattle.safety.specs.declared.Judgement.the-variants.{Refused, Safe, Unsafe}
-use Rattle.safety.proofs.Demand3.{passed}
-use Rattle.safety.proofs.Buffers.{calls-back}
+use Rattle.safety.specs.declared.Judgement.the-variants.{Safe, Unsafe}
+use Rattle.safety.proofs.Refusals.{none-refused, judges, refuses, fills}
+use Rattle.safety.proofs.Buffers.{bytes-length, calls-back}
 use Rattle.listing.specs.Listing.{head, refusedWord, bufferBytes, printed, listing}
 use Rattle.listing.specs.Writing.{Put, Room, listingBytes, Answered}
-
--- ---- 24 was not given: the bound's steps fit into the buffer
-bound-fits : (p : Policy) (r n : ℕ) → callerRefusal p r n ≡ 0 → 5 * boundOf p ≤ n
-bound-fits p r n e = ltb-false n (5 * boundOf p) (passed p r n e .3)
-
-both-zero : (n m : ℕ) → orElse n m ≡ 0 → (n ≡ 0) × (m ≡ 0)
-both-zero n m e = go (ℕ-discrete n 0)
-  where
-    go : Dec (n ≡ 0) → (n ≡ 0) × (m ≡ 0)
-    go (yes z) = (z, sym (rw (eq-eqb n 0 z)) ∙ e)
-    go (no z) = absurd (z (sym (rw (ne-eqb n 0 z)) ∙ e))
 
 -- ---- the judgement, its count and its steps
 count-of : (u : Bool) (n : ℕ) → stepsWritten (pick u (Unsafe n) (Safe n)) ≡ n
 count-of true n = refl
 count-of false n = refl
 
-bytes-length : (xs : List Call) → length (bytesOf xs) ≡ 5 * length xs
-bytes-length [] = refl
-bytes-length (x ∷ xs) = let z = bytes-length xs in omega arith
-
 -- a verdict's answer needs its steps only, and a refusal nothing
 module _ (f : List ℕ) (r : ℕ) (b : List ℕ) (j : Judgement) (b' : List ℕ) (J : Judged f r b j b') (e : length b ≡ bufferBytes) where
   given : j ≡ fileJudgement f r bufferBytes
   given = J .answer-is ∙ ap (fileJudgement f r) e
 
-  refuses : (judgeRefusal f r bufferBytes ≡ 0 → ⊥) → fileJudgement f r bufferBytes ≡ Refused (judgeRefusal f r bufferBytes)
-  unfolding fileJudgement
-  refuses n = rw (ne-eqb (judgeRefusal f r bufferBytes) 0 n)
-
   module _ (z : judgeRefusal f r bufferBytes ≡ 0) where
-    judges : fileJudgement f r bufferBytes ≡ judgementOf (fileVerdict f r)
-    unfolding fileJudgement
-    judges = rw (eq-eqb (judgeRefusal f r bufferBytes) 0 z)
-
     here : judgeRefusal f r (length b) ≡ 0
     here = ap (judgeRefusal f r) e ∙ z
 
     written : b' ≡ filled (fileVerdict f r .steps) b
-    unfolding fileBuffer
-    written = J .buffer-is ∙ rw (eq-eqb (judgeRefusal f r (length b)) 0 here)
+    written = J .buffer-is ∙ fills f r b here
 
     count : stepsWritten j ≡ length (fileVerdict f r .steps)
-    count = ap stepsWritten (given ∙ judges) ∙ count-of (fileVerdict f r .unsafe) (length (fileVerdict f r .steps))
-
-    zeros : (refusal f ≡ 0) × (callerRefusal (policyOf f) r bufferBytes ≡ 0)
-    unfolding judgeRefusal
-    zeros = both-zero (refusal f) (callerRefusal (policyOf f) r bufferBytes) z
-
-    bound : stepBound (fileSystem f .rights) (fileState f) ≡ boundOf (policyOf f)
-    unfolding policyOf
-    bound = refl
+    count = ap stepsWritten (given ∙ judges f r bufferBytes z) ∙ count-of (fileVerdict f r .unsafe) (length (fileVerdict f r .steps))
 
     few : stepsWritten j ≤ 7940
-    few = let w = J .demand3 here .within in let k = bound-fits (policyOf f) r bufferBytes (zeros .1) in let q = bound in omega arith
+    few = let k = J .demand3 here .room in omega arith
 
     inside : 5 * stepsWritten j ≤ length b'
     inside =
@@ -94,7 +58,7 @@ module _ (f : List ℕ) (r : ℕ) (b : List ℕ) (j : Judgement) (b' : List ℕ)
     steps-are = ap₂ calls written count ∙ calls-back (fileVerdict f r .steps) (drop (5 * length (fileVerdict f r .steps)) b)
 
   none-written : (judgeRefusal f r bufferBytes ≡ 0 → ⊥) → stepsWritten j ≡ 0
-  none-written n = ap stepsWritten (given ∙ refuses n)
+  none-written n = ap stepsWritten (given ∙ refuses f r bufferBytes n)
 
   -- there is room for the lines
   pub judged-room : (o : List ℕ) → listingBytes ≤ length o → Room o (stepsWritten j) b'
@@ -111,11 +75,11 @@ module _ (f : List ℕ) (r : ℕ) (b : List ℕ) (j : Judgement) (b' : List ℕ)
       where
         go : Dec (judgeRefusal f r bufferBytes ≡ 0) → printed (x .policy) j (calls b' (stepsWritten j)) ≡ listing (r ∷ f)
         go (yes z) =
-            let p : x .policy ≡ policyOf f = read-policy f x d (read-refusal f x d ∙ zeros z .0) in
+            let p : x .policy ≡ policyOf f = read-policy f x d (read-refusal f x d ∙ none-refused f r bufferBytes z .0) in
             ap₂ (λ (q : Policy) (l : List Call). printed q j l) p (steps-are z) ∙ ap (λ (i : Judgement). printed (policyOf f) i (fileVerdict f r .steps)) given
         go (no n) =
-            ap (λ (i : Judgement). printed (x .policy) i (calls b' (stepsWritten j))) (given ∙ refuses n)
-            ∙ sym (ap (λ (i : Judgement). printed (policyOf f) i (fileVerdict f r .steps)) (refuses n))
+            ap (λ (i : Judgement). printed (x .policy) i (calls b' (stepsWritten j))) (given ∙ refuses f r bufferBytes n)
+            ∙ sym (ap (λ (i : Judgement). printed (policyOf f) i (fileVerdict f r .steps)) (refuses f r bufferBytes n))
 
     pub judged-put : (o o' : List ℕ) (n : ℕ) → Put o 0 (printed (x .policy) j (calls b' (stepsWritten j))) n o' → Put o 0 (listing (r ∷ f)) n o'
     judged-put o o' n q = subst (λ (l : List ℕ). Put o 0 l n o') prints q

@@ -6,7 +6,7 @@ use native.Mathlib.Omega.{arith}
 use lib.ListN.{length, length-append}
 use Rattle.policy.specs.declared.Policy.{Policy}
 use Rattle.trace.specs.Traces.{calls}
-use Rattle.safety.specs.Judgement.{stepsWritten}
+use Rattle.safety.specs.Demand3.{stepsWritten}
 use Rattle.safety.specs.declared.Judgement.{Judgement}
 use Rattle.safety.specs.declared.Judgement.the-variants.{Refused, Safe, Unsafe}
 use Rattle.listing.specs.Listing.{decimal, newline, safeWord, unsafeWord, refusedWord, head, lines, printed}

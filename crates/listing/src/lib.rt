@@ -6,7 +6,7 @@ ghost use lib.ListN.{length, take};
 ghost use Rattle.listing.specs.Listing.{unsafeWord, decimal, spaced, head, line, lines, printed, bufferBytes, listing};
 ghost use Rattle.listing.specs.Writing.{Put, PutWithin, shownActual, Room, listingBytes, Answered};
 ghost use Rattle.trace.specs.Traces.{callAt, calls};
-ghost use Rattle.safety.specs.Judgement.{stepsWritten};
+ghost use Rattle.safety.specs.Demand3.{stepsWritten};
 use matrix::Matrix;
 use policy::Policy;
 use safety::Judgement;

@@ -1,21 +1,21 @@
 -- A call of a command of one operation: it is carried out exactly where its actuals fit, its conditions hold and its operation can be done, with or
 -- without a bound on names. Assumes nothing.
 use mathlib.Core.Path.{_≡_, refl, sym, ap, _∙_, subst}
-use mathlib.Core.Bool.{Bool, true, false, not, _&&_, or-false}
+use mathlib.Core.Bool.{Bool, true, not, _&&_, or-false}
 use mathlib.Core.List.{List, [], _∷_}
 use mathlib.Core.Option.{Option, none, some}
 use Prim.Native.Nat.{ℕ, _≤_, _<_}
 use native.Mathlib.Omega.{arith}
 use borrow.Author.Tests.{lt-ltb}
-use lib.Dec.{T, eqb, ltb, ltb→lt}
+use lib.Dec.{T, ltb→lt}
 use lib.ListN.{getElem?}
-use Rattle.cases.specs.Cases.{pick, each}
+use Rattle.cases.specs.Cases.{each}
 use Rattle.cases.proofs.Bools.{and-left, and-right, and-intro}
-use Rattle.cases.proofs.Loops.{each-map, each-one}
-use Rattle.protection.specs.Limits.{names, parameters, unused}
+use Rattle.cases.proofs.Loops.{each-one}
+use Rattle.protection.specs.Limits.{names, parameters}
 use Rattle.protection.specs.State.{State}
 use Rattle.protection.specs.Command.{Condition, Operation, enter, delete, createSubject, createObject, destroySubject, destroyObject, Command, System, Call, Actuals, actuals}
-use Rattle.protection.specs.Execution.{bounded, unbounded, holdAll, spareExists, actualFits, canDo, effect, entersNew, canDoAll, effectAll, entersAnyNew, Outcome, refused, done, executeCommand, execute}
+use Rattle.protection.specs.Execution.{bounded, holdAll, spareExists, actualFits, canDo, effect, entersNew, canDoAll, effectAll, entersAnyNew, Outcome, refused, done, executeCommand, execute}
 use Rattle.protection.specs.Leak.{isRefused}
 use Rattle.protection.specs.Judge.{operationIn, allowed}
 use Rattle.protection.proofs.Model.{gates-open, gates-elim}
@@ -62,18 +62,6 @@ pub record Carried (nameable : ℕ → Bool) (C : Command) (m : State) (a : Actu
   pub fits : T (each (actualFits nameable (C .parameters) a) parameters 0)
   pub able : T (ready C m a)
   pub can : T (canDo m a (operationIn C))
-
--- what is carried out on bounded names is carried out on all
-pub carried-unbounded : (C : Command) (m : State) (a : Actuals) → Carried bounded C m a → Carried unbounded C m a
-carried-unbounded C m a K = record {
-  fits = each-map (actualFits bounded (C .parameters) a) (actualFits unbounded (C .parameters) a) parameters 0 (λ b _ _. wider (ltb b (C .parameters)) (bounded (a b)) (eqb (a b) unused)) (K .fits);
-  able = K .able;
-  can = K .can;
-}
-  where
-    wider : (b c d : Bool) → T (pick b c d) → T (pick b true d)
-    wider true c d t = tt
-    wider false c d t = t
 
 -- bounded names: a parameter's name is below 32
 pub carried-small : (g : ℕ) (C : Command) → Single g C → (m : State) (a : Actuals) → Carried bounded C m a → (b : ℕ) → b < C .parameters → a b < names

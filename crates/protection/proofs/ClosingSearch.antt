@@ -12,9 +12,9 @@ use Rattle.cases.proofs.Bools.{and-intro, both as conjuncts, is-true}
 use Rattle.protection.specs.Limits.{names}
 use Rattle.protection.specs.State.{State, objectIn}
 use Rattle.protection.specs.Command.{Operation, enter, delete, createSubject, createObject, destroySubject, destroyObject, Command, System, Call, Actuals, actuals}
-use Rattle.protection.specs.Execution.{unbounded, takeOut, effect, entersNew, done, execute}
+use Rattle.protection.specs.Execution.{bounded, takeOut, effect, entersNew, done, execute}
 use Rattle.protection.specs.Judge.{firstIn, lowestAbsent, operationIn, placesOf, callAt, allowed, deletesAt, entersAt, takes, returns, firstCall, both, pairAt, isEmpty, closing}
-use Rattle.protection.proofs.Calls.{Singles, outcome, carried-unbounded, call-done, allowed-carried}
+use Rattle.protection.proofs.Calls.{Singles, outcome, call-done, allowed-carried}
 use Rattle.protection.proofs.Closed.{Reaches}
 use Rattle.protection.proofs.First.{first-passes, first-found}
 use Rattle.protection.proofs.Places.{OnCell, enter-on-cell, delete-on-cell, visited-cell}
@@ -106,11 +106,10 @@ module _ (S : System) (test : Actuals → Operation → Bool) (N : State) where
         call-found sought n (S .commands) 0 (H .place) (R .C) (H .found) (W .place) (W .inside) (rw zero-add (sought-intro (R .C) x (rw (H .is) t) (W .allows)))
 
     -- what it finds is carried out
-    hit-done : (x : Call) (H : Hit sought (S .commands) 0 x) → execute unbounded S N x ≡ outcome (H .C) N (actuals x)
+    hit-done : (x : Call) (H : Hit sought (S .commands) 0 x) → execute bounded S N x ≡ outcome (H .C) N (actuals x)
     hit-done x H =
         let found : getElem? (S .commands) (x .command) ≡ some (H .C) = rw (H .number, zero-add) (H .found) in
-        call-done S singles unbounded N x (H .C) found
-        (carried-unbounded (H .C) N (actuals x) (allowed-carried S singles N x (H .C) found (sought-parts (H .C) x (H .passes) .1)))
+        call-done S singles bounded N x (H .C) found (allowed-carried S singles N x (H .C) found (sought-parts (H .C) x (H .passes) .1))
 
 -- ---- the two tests
 at-cell : (r u v q s o : ℕ) (a : Actuals) → T ((eqb q r && eqb (a s) u) && eqb (a o) v) → (q ≡ r) × (a s ≡ u) × (a o ≡ v)

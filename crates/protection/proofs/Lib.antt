@@ -1,4 +1,6 @@
+pub mod Names
 pub mod Model
+pub mod Widening
 pub mod Calls
 pub mod Closed
 pub mod First
@@ -9,4 +11,5 @@ pub mod Fixpoint
 pub mod ClosingSearch
 pub mod Sums
 pub mod Bound
+pub mod Consequences
 pub mod Safety

@@ -3,19 +3,19 @@
 use mathlib.Core.Path.{_≡_, refl, sym, ap, ap₂, _∙_, subst}
 use mathlib.Core.Bool.{Bool, true, false, not, _&&_, _||_, or-false}
 use mathlib.Core.List.{List, [], _∷_}
-use mathlib.Core.Logic.{_↔_}
 use mathlib.Core.Option.{Option, none, some}
 use Prim.Native.Nat.{ℕ}
 use native.Mathlib.Omega.{arith}
-use lib.Dec.{T, eqb, ltb, eqb→eq, eqb-refl, T-not, not-T}
+use lib.Dec.{T, eqb, eqb→eq, eqb-refl, T-not, not-T}
 use lib.ListN.{getElem?}
 use Rattle.cases.specs.Cases.{pick, each}
 use Rattle.cases.proofs.Bools.{and-left, and-right, and-intro, both, is-true, is-false, holds as test-holds, fails}
 use Rattle.protection.specs.Limits.{parameters}
 use Rattle.protection.specs.State.{Kind, absent, object, subject, isObject, isSubject, State, objectIn, subjectIn}
 use Rattle.protection.specs.Command.{Condition, Operation, enter, delete, createSubject, createObject, destroySubject, destroyObject, Command, System, Call, Actuals, actuals}
-use Rattle.protection.specs.Execution.{holds, holdAll, spareExists, actualFits, canDo, sameCell, put, takeOut, renew, effect, canDoAll, effectAll, entersAnyNew, Outcome, refused, done, gate, executeCommand, execute}
-use Rattle.protection.specs.Paper.{Configuration, subject-is-object, configuration, Equal, Same, Yields, YieldsAll, Satisfied, SatisfiedAll, Executes}
+use Rattle.protection.specs.Execution.{holdAll, spareExists, actualFits, canDo, sameCell, renew, effect, canDoAll, effectAll, entersAnyNew, Outcome, refused, done, gate, executeCommand, execute}
+use Rattle.protection.specs.Paper.{Configuration, subject-is-object, configuration, Equal, Same, Yields, YieldsAll, SatisfiedAll, Executes}
+use Rattle.protection.specs.Agreement.{Admitted, Agrees}
 
 -- ---- a kind at the name that is created or destroyed, and elsewhere
 made-subject : (b : Bool) (k : Kind) → isSubject (pick b subject k) ≡ isSubject k || b
@@ -327,23 +327,6 @@ satisfied-hold m a (c ∷ cs) h =
     search both
 
 -- ---- the theorem
--- what document 01 asks of a call before the model is: the rule is there (11), the actuals are names or 255 (12), spare blanks have existing names (13)
-pub record Admitted (nameable : ℕ → Bool) (S : System) (m : State) (x : Call) (C : Command) : Type 0 where
-  pub found : getElem? (S .commands) (x .command) ≡ some C
-  pub fit : T (each (actualFits nameable (C .parameters) (actuals x)) parameters 0)
-  pub spare : T (each (spareExists C m (actuals x)) (C .parameters) 0)
-
-pub record Agrees (nameable : ℕ → Bool) (S : System) (m : State) (x : Call) : Type 0 where
-  -- a rule run that is done is one that the paper's relation executes, and it ends in the same configuration
-  pub done-executes : (m' : State) (new : ℕ → Bool) → execute nameable S m x ≡ done m' new
-      → (C : Command) × Admitted nameable S m x C × Executes C (actuals x) (configuration m) (configuration m')
-  -- one that the relation executes and document 01 admits is done, and it ends in the same configuration
-  pub executes-done : (C : Command) (E : Configuration) → Admitted nameable S m x C → Executes C (actuals x) (configuration m) E
-      → (m' : State) × (new : ℕ → Bool) × (execute nameable S m x ≡ done m' new) × Same (configuration m') E
-  -- it is refused exactly if the relation does not execute it or document 01 does not admit it
-  pub refused-exactly : ((n : ℕ) × (execute nameable S m x ≡ refused n))
-      ↔ ((C : Command) (E : Configuration) → Admitted nameable S m x C → Executes C (actuals x) (configuration m) E → ⊥)
-
 not-both : (m : State) (new : ℕ → Bool) (n : ℕ) → done m new ≡ refused n → ⊥
 not-both m new n e = let z : _≡_ {A = ℕ} 0 1 = cc in omega arith
 

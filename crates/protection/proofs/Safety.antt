@@ -1,9 +1,9 @@
 -- Demand 3: the judge says unsafe exactly where some run leaks r, and then its steps are a run that leaks at its last step and nowhere sooner.
 -- And the invariant of its rounds, with the bound on its steps. Assumes nothing.
-use mathlib.Core.Path.{_≡_, refl}
+use mathlib.Core.Path.{_≡_, refl, ap, _∙_}
 use mathlib.Core.Bool.{Bool, true, false, not}
 use mathlib.Core.List.{List, _++_}
-use mathlib.Core.Logic.{_⊎_, ⊎-elim, _↔_}
+use mathlib.Core.Logic.{_⊎_, _↔_}
 use mathlib.Core.Option.{some}
 use Prim.Native.Nat.{ℕ, _+_, _-_, _≤_}
 use native.Mathlib.Omega.{arith}
@@ -13,14 +13,17 @@ use Rattle.cases.proofs.Bools.{stable, not-not}
 use Rattle.protection.specs.Limits.{startNames}
 use Rattle.protection.specs.State.{State}
 use Rattle.protection.specs.Command.{Command, System, Call, actuals}
-use Rattle.protection.specs.Execution.{unbounded}
+use Rattle.protection.specs.Execution.{bounded, unbounded}
 use Rattle.protection.specs.Leak.{leaks, LeaksLast}
-use Rattle.protection.specs.Judge.{lowestAbsent, operationIn, callAt, Progress, opened, visit, round, rounds, isEmpty, closing, Verdict, subjectsOf, namesOf, stepBound, judge}
+use Rattle.protection.specs.Size.{subjectsOf, namesOf, stepBound}
+use Rattle.protection.specs.Judge.{lowestAbsent, operationIn, callAt, Progress, opened, visit, round, rounds, isEmpty, closing, Verdict, allRounds, judge, Settled}
 use Rattle.protection.specs.Proper.{Proper}
 use Rattle.protection.specs.Paper.{subject-is-object}
-use Rattle.protection.proofs.Calls.{Singles, carried-unbounded, carried-small, call-done}
+use Rattle.protection.proofs.Calls.{Singles, carried-small, call-done}
 use Rattle.protection.proofs.Closed.{Closed, closed-safe}
-use Rattle.protection.proofs.Rounds.{visit-cases, round-quiet, keep-rounds, rounds-end}
+use Rattle.protection.proofs.Rounds.{visit-cases, round-quiet, keep-rounds, rounds-end, rounds-more}
+use Rattle.protection.proofs.Widening.{last-unbounded}
+use Rattle.protection.proofs.Consequences.{settled-still}
 use Rattle.protection.proofs.Invariant.{Goes, goes-last, Course, course-opened, course-step}
 use Rattle.protection.proofs.Fixpoint.{closed-enters, closed-creates-subject, closed-creates-object}
 use Rattle.protection.proofs.ClosingSearch.{closing-none, closing-few, closing-sound}
@@ -50,7 +53,7 @@ module _ (S : System) (r : ℕ) (m : State) (K : Taken S m) where
   kept-visit i C found n p j h = visit-cases S (K .singles) r i C found n p j (Kept S r m) (λ going want G.
       let F = K .singles i C found in
       let x = callAt i C n p in
-      let e = call-done S (K .singles) unbounded (j .state) x C found (carried-unbounded C (j .state) (actuals x) G) in
+      let e = call-done S (K .singles) bounded (j .state) x C found G in
       let t = tally-step (S .rights) (subjectsOf m) (namesOf m) r j (h .proper) (h .tally) x (C .parameters) (carried-small (S .rights) C F (j .state) (actuals x) G) (operationIn C) (F .operation-fits) (G .can) want in
       record { course = course-step S r m j (h .course) x going (operationIn C) (G .can) want e; proper = t .0; tally = t .1 }) h
 
@@ -62,11 +65,19 @@ module _ (S : System) (r : ℕ) (m : State) (K : Taken S m) where
 
   -- ---- where the rounds come to: a leak, or a fixpoint
   abbrev last : Progress
-  last = rounds S r (stepBound (S .rights) m) (opened m)
+  last = allRounds S r m
 
-  pub rounds-settled : T (last .ended) ⊎ (round S r last ≡ last)
-  rounds-settled =
+  end : T (last .ended) ⊎ (round S r last ≡ last)
+  end =
       rounds-end S r (Kept S r m) kept-visit (stepBound (S .rights) m - 2) (λ j h. let b = kept-bound S r m j h in omega arith) (stepBound (S .rights) m) (opened m) kept-opened (omega arith)
+
+  pub rounds-settled : Settled S r m
+  rounds-settled = record {
+    ends = end;
+    enough = λ fuel l.
+        let e : fuel ≡ stepBound (S .rights) m + (fuel - stepBound (S .rights) m) = omega arith in
+        ap (λ (n : ℕ). rounds S r n (opened m)) e ∙ rounds-more S r (stepBound (S .rights) m) (fuel - stepBound (S .rights) m) (opened m) end;
+  }
 
   -- a fixpoint with no closing pair is closed
   last-closed : round S r last ≡ last → T (not (last .ended)) → T (isEmpty (closing S r m (last .state))) → Closed S r m (last .state) (lowestAbsent (last .state))
@@ -97,7 +108,7 @@ module _ (S : System) (r : ℕ) (m : State) (K : Taken S m) where
   verdict-safe true e t = absurd t
   verdict-safe false e t =
       let going : T (not (last .ended)) = rw e tt in
-      let still : round S r last ≡ last = ⊎-elim (λ u. absurd (T-not (last .ended) going u)) (λ q. q) rounds-settled in
+      let still : round S r last ≡ last = settled-still S r m rounds-settled going in
       closed-safe S (K .singles) r m (last .state) (lowestAbsent (last .state)) (last-closed still going (not-not (isEmpty (closing S r m (last .state))) t))
 
   verdict-few : (b : Bool) → length (verdict b .steps) ≤ stepBound (S .rights) m
@@ -105,9 +116,13 @@ module _ (S : System) (r : ℕ) (m : State) (K : Taken S m) where
   verdict-few false = rw length-append (omega (arith, steps-bound (stepBound (S .rights) m), closing-few S (K .singles) r m (last .state)))
 
   -- ---- the theorem
-  pub unsafe-steps : T (judge S r m .unsafe) → LeaksLast unbounded S r m (judge S r m .steps)
+  -- its steps leak on the names of a file, and so on names without number
+  pub unsafe-steps-bounded : T (judge S r m .unsafe) → LeaksLast bounded S r m (judge S r m .steps)
   unfolding judge
-  unsafe-steps t = let w = verdict-goes (last .ended) refl t in goes-last S r m (judge S r m .steps) (w .0) (w .1)
+  unsafe-steps-bounded t = let w = verdict-goes (last .ended) refl t in goes-last S r m (judge S r m .steps) (w .0) (w .1)
+
+  pub unsafe-steps : T (judge S r m .unsafe) → LeaksLast unbounded S r m (judge S r m .steps)
+  unsafe-steps t = last-unbounded S r (judge S r m .steps) m (unsafe-steps-bounded t)
 
   pub safe-never : T (not (judge S r m .unsafe)) → (xs : List Call) → T (leaks unbounded S r m xs) → ⊥
   unfolding judge

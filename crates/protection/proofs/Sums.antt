@@ -7,7 +7,7 @@ use native.Mathlib.Nat.{le-refl}
 use native.Mathlib.Decide.{decLt, ℕ-discrete}
 use lib.Dec.{T}
 use Rattle.cases.specs.Cases.{pick}
-use Rattle.protection.specs.Judge.{count}
+use Rattle.protection.specs.Size.{count}
 
 abbrev pub one : Bool → ℕ
 one b = pick b 1 0

@@ -1,8 +1,10 @@
 pub mod Limits
 pub mod State
+pub mod Size
 pub mod Proper
 pub mod Command
 pub mod Execution
 pub mod Leak
 pub mod Judge
 pub mod Paper
+pub mod Agreement

@@ -1,9 +1,10 @@
 -- The buffer as the steps written in front of what it held before. Assumes nothing.
-use Prim.Native.Nat.{ℕ, zero, suc, _+_, _*_, _-_, _≤_}
+use Prim.Native.Nat.{ℕ, zero, suc, _+_, _*_, _≤_}
 use mathlib.Core.Path.{_≡_, refl, sym, ap, ap₂, _∙_}
 use mathlib.Core.List.{List, [], _∷_, _++_}
 use native.Mathlib.Omega.{arith}
-use lib.ListN.{length, getD, drop}
+use lib.ListN.{length, getD, take, drop}
+use lib.Seq.{take-at}
 use Rattle.cases.specs.Cases.{listed}
 use Rattle.cases.proofs.Lists.{length-listed}
 use Rattle.protection.specs.Command.{Call}
@@ -40,6 +41,15 @@ bytes-back (suc n) (x ∷ y ∷ z ∷ u ∷ []) h = absurd (omega arith)
 bytes-back (suc n) (x ∷ y ∷ z ∷ u ∷ v ∷ b) h =
     ap₂ (λ (l d : List ℕ). x ∷ y ∷ z ∷ u ∷ v ∷ (l ++ d)) (ap bytesOf (calls-later x y z u v b n)) (ap (λ (k : ℕ). drop k (x ∷ y ∷ z ∷ u ∷ v ∷ b)) (five n))
     ∙ ap (λ (l : List ℕ). x ∷ y ∷ z ∷ u ∷ v ∷ l) (bytes-back n b (omega arith))
+
+-- five bytes a step
+pub bytes-length : (xs : List Call) → length (bytesOf xs) ≡ 5 * length xs
+bytes-length [] = refl
+bytes-length (x ∷ xs) = let z = bytes-length xs in omega arith
+
+-- so many bytes of the buffer are the steps'
+pub front-bytes : (xs : List Call) (d : List ℕ) → take (5 * length xs) (bytesOf xs ++ d) ≡ bytesOf xs
+front-bytes xs d = take-at (bytesOf xs) d (5 * length xs) (bytes-length xs)
 
 -- steps written in front are read back
 pub calls-back : (xs : List Call) (d : List ℕ) → calls (bytesOf xs ++ d) (length xs) ≡ xs

@@ -1,4 +1,6 @@
 pub mod Counts
+pub mod Refusals
 pub mod Buffers
 pub mod Concluding
+pub mod Consequences
 pub mod Demand3

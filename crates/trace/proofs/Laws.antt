@@ -1,30 +1,26 @@
 -- What a replay's answer means: it says a leak at step n exactly if the first n + 1 steps leak at their last step and nowhere sooner. Assumes nothing.
-use Prim.Native.Nat.{ℕ, zero, suc, _+_, _*_, _-_, _/_, _%_, _≤_, _<_}
-use mathlib.Core.Path.{_≡_, refl, sym, ap, ap₂, _∙_, subst}
-use mathlib.Core.Bool.{Bool, true, false, not, _&&_, _||_}
+use Prim.Native.Nat.{ℕ, zero, suc, _+_, _%_, _≤_, _<_}
+use mathlib.Core.Path.{_≡_, refl, sym, ap, _∙_, subst}
+use mathlib.Core.Bool.{Bool, true, false, _||_}
 use mathlib.Core.List.{List, [], _∷_}
-use mathlib.Core.Logic.{_↔_, ⊎-elim}
-use mathlib.Core.Option.{Option, none, some}
+use mathlib.Core.Logic.{_↔_}
 use native.Mathlib.Nat.{not-suc-le-zero}
 use native.Mathlib.Omega.{arith}
-use borrow.Author.Tests.{ltb-true, eq-eqb, lt-leb}
-use lib.Dec.{T, eqb, leb, ltb}
-use lib.ListN.{length, take, getElem?}
-use Rattle.cases.specs.Cases.{pick, each, listed}
-use Rattle.cases.proofs.Bools.{is-true, is-false, fails, holds as test-holds, or-cases, or-left, or-right}
+use borrow.Author.Tests.{eq-eqb, lt-leb}
+use lib.Dec.{T}
+use lib.ListN.{length, take}
+use Rattle.cases.specs.Cases.{pick}
 use Rattle.cases.proofs.Lists.{length-listed, take-listed}
-use Rattle.cases.proofs.Loops.{each-at, each-all}
-use Rattle.protection.specs.Limits.{parameters}
 use Rattle.protection.specs.State.{State}
-use Rattle.protection.specs.Command.{Command, System, Call, Actuals, actuals}
-use Rattle.protection.specs.Execution.{bounded, unbounded, holdAll, spareExists, actualFits, canDoAll, effectAll, entersAnyNew, Outcome, refused, done, gate, executeCommand, execute}
+use Rattle.protection.specs.Command.{System, Call}
+use Rattle.protection.specs.Execution.{bounded, unbounded, Outcome, refused, done, execute}
 use Rattle.protection.specs.Leak.{after, isRefused, isLeak, leaks, anyRefused, init, LeaksLast}
+use Rattle.protection.proofs.Widening.{NamesOfFile, last-unbounded, last-bounded}
 use Rattle.layout.specs.File.{rightsOf}
 use Rattle.policy.specs.Refusals.{refusal}
 use Rattle.policy.specs.Contents.{fileState, fileSystem}
 use Rattle.trace.specs.Traces.{callAt, calls, stepsIn}
 use Rattle.trace.specs.Replays.{reported, replayFrom, fileReplay}
-use Rattle.trace.specs.declared.Replay.{Replay}
 use Rattle.trace.specs.declared.Replay.the-variants.{NoLeak, Leak, Refused}
 
 -- ---- the answers are told apart
@@ -156,98 +152,6 @@ module _ (S : System) (r : ℕ) where
               later : (n : ℕ) → n < suc (length xs) → LeaksLast bounded S r m (take (suc n) (x ∷ xs)) → replayFrom S r xs (suc i) m' ≡ Leak (i + n)
               later zero l L = absurd (last-not bounded S r m x m' new d w L)
               later (suc k) l L = let z : suc i + k ≡ i + suc k = omega arith in ih k m' (omega arith) (tail k xs (omega arith) L) ∙ ap Leak z
-
--- ---- names of a file and names without number: P and Q say which numbers a call may give as names
--- what a call does where P names are allowed, it does where Q names are
-abbrev Carries : (ℕ → Bool) → (ℕ → Bool) → System → Call → Type 0
-Carries P Q S x = (m m' : State) (new : ℕ → Bool) → execute P S m x ≡ done m' new → execute Q S m x ≡ done m' new
-
-abbrev CarriesAll : (ℕ → Bool) → (ℕ → Bool) → System → List Call → Type 0
-CarriesAll P Q S [] = Unit {0}
-CarriesAll P Q S (x ∷ xs) = Carries P Q S x × CarriesAll P Q S xs
-
--- a call whose actuals fit under P and under Q
-carries : (P Q : ℕ → Bool) (S : System) (x : Call)
-    → ((C : Command) → getElem? (S .commands) (x .command) ≡ some C → (b : ℕ) → b < C .parameters → T (P (actuals x b)) → T (Q (actuals x b))) → Carries P Q S x
-carries P Q S x h m m' new e = go (getElem? (S .commands) (x .command)) refl e
-  where
-    go : (w : Option Command) → getElem? (S .commands) (x .command) ≡ w → executeCommand P m w (actuals x) ≡ done m' new → executeCommand Q m w (actuals x) ≡ done m' new
-    go none d e = e
-    go (some C) d e = gates (each (actualFits P (C .parameters) (actuals x)) parameters 0) refl e
-      where
-        fits : (b : ℕ) → actualFits P (C .parameters) (actuals x) b ≡ true → actualFits Q (C .parameters) (actuals x) b ≡ true
-        fits b = by (ltb b (C .parameters)) refl
-          where
-            by : (c : Bool) → ltb b (C .parameters) ≡ c → pick c (P (actuals x b)) (eqb (actuals x b) 255) ≡ true → pick c (Q (actuals x b)) (eqb (actuals x b) 255) ≡ true
-            by true l e = is-true (Q (actuals x b)) (h C d b (ltb-true b (C .parameters) l) (test-holds (P (actuals x b)) e))
-            by false l e = e
-
-        gates : (c : Bool) → each (actualFits P (C .parameters) (actuals x)) parameters 0 ≡ c
-            → gate c 12 (gate (each (spareExists C m (actuals x)) (C .parameters) 0) 13 (gate (holdAll m (actuals x) (C .conditions)) 14 (gate (canDoAll m (actuals x) (C .operations)) 15
-            (done (effectAll m (actuals x) (C .operations)) (entersAnyNew m (actuals x) (C .operations)))))) ≡ done m' new
-            → executeCommand Q m (some C) (actuals x) ≡ done m' new
-        gates true d e =
-            let z : each (actualFits Q (C .parameters) (actuals x)) parameters 0 ≡ true =
-            each-all (actualFits Q (C .parameters) (actuals x)) parameters 0 (λ b l k. fits b (each-at (actualFits P (C .parameters) (actuals x)) parameters 0 d b l k)) in
-            rw z e
-        gates false d e = absurd (let z : _≡_ {A = ℕ} 0 1 = cc in omega arith)
-
-module _ (P Q : ℕ → Bool) (S : System) (r : ℕ) where
-  carried-same : (xs : List Call) (m : State) → CarriesAll P Q S xs → (T (anyRefused P S m xs) → ⊥) → (anyRefused Q S m xs ≡ false) × (leaks Q S r m xs ≡ leaks P S r m xs)
-  unfolding anyRefused leaks
-  carried-same [] m h f = (refl, refl)
-  carried-same (x ∷ xs) m h f = go (execute P S m x) refl (λ m'. carried-same xs m' (h .1)) f
-    where
-      go : (o : Outcome) → execute P S m x ≡ o → ((m' : State) → (T (anyRefused P S m' xs) → ⊥) → (anyRefused Q S m' xs ≡ false) × (leaks Q S r m' xs ≡ leaks P S r m' xs))
-          → (T (isRefused o || anyRefused P S (after o m) xs) → ⊥)
-          → (isRefused (execute Q S m x) || anyRefused Q S (after (execute Q S m x) m) xs ≡ false)
-          × (isLeak r (execute Q S m x) || leaks Q S r (after (execute Q S m x) m) xs ≡ isLeak r (execute P S m x) || leaks P S r (after (execute P S m x) m) xs)
-      go (refused n) d ih f = absurd (f tt)
-      go (done m' new) d ih f =
-          let u : execute Q S m x ≡ done m' new = h .0 m m' new d in
-          let k = ih m' f in
-          (rw u (k .0), rw (u, d) (ap (λ (b : Bool). new r || b) (k .1)))
-
-  init-carried : (xs : List Call) (m : State) → T (anyRefused P S m (init xs)) → T (anyRefused P S m xs)
-  unfolding anyRefused
-  init-carried [] m t = t
-  init-carried (x ∷ []) m t = absurd t
-  init-carried (x ∷ y ∷ xs) m t =
-      ⊎-elim (λ a. or-left (isRefused (execute P S m x)) (anyRefused P S (after (execute P S m x) m) (y ∷ xs)) a)
-      (λ b. or-right (isRefused (execute P S m x)) (anyRefused P S (after (execute P S m x) m) (y ∷ xs)) (init-carried (y ∷ xs) (after (execute P S m x) m) b))
-      (or-cases (isRefused (execute P S m x)) (anyRefused P S (after (execute P S m x) m) (init (y ∷ xs))) t)
-
-  init-all : (xs : List Call) → CarriesAll P Q S xs → CarriesAll P Q S (init xs)
-  init-all [] h = tt
-  init-all (x ∷ []) h = tt
-  init-all (x ∷ y ∷ xs) h = (h .0, init-all (y ∷ xs) (h .1))
-
-  last-carries : (xs : List Call) (m : State) → CarriesAll P Q S xs → LeaksLast P S r m xs → LeaksLast Q S r m xs
-  last-carries xs m h L =
-      let all = carried-same xs m h (L .carried) in
-      let most = carried-same (init xs) m (init-all xs h) (λ t. L .carried (init-carried xs m t)) in
-      record { carried = fails (anyRefused Q S m xs) (all .0); leak = subst T (sym (all .1)) (L .leak); sooner = λ t. L .sooner (subst T (most .1) t) }
-
--- the calls give names of a file, 0 to 31, to the parameters of their commands
-abbrev pub NamesOfFile : System → List Call → Type 0
-NamesOfFile S [] = Unit {0}
-NamesOfFile S (x ∷ xs) = ((C : Command) → getElem? (S .commands) (x .command) ≡ some C → (b : ℕ) → b < C .parameters → T (bounded (actuals x b))) × NamesOfFile S xs
-
-module _ (S : System) (r : ℕ) where
-  widen : (xs : List Call) → CarriesAll bounded unbounded S xs
-  widen [] = tt
-  widen (x ∷ xs) = (carries bounded unbounded S x (λ C _ b _ _. tt), widen xs)
-
-  narrow : (xs : List Call) → NamesOfFile S xs → CarriesAll unbounded bounded S xs
-  narrow [] h = tt
-  narrow (x ∷ xs) h = (carries unbounded bounded S x (λ C d b l _. h .0 C d b l), narrow xs (h .1))
-
-  -- a leak at the last step on the names of a file is one on names without number, and the other way where the run gives names of a file
-  pub last-unbounded : (xs : List Call) (m : State) → LeaksLast bounded S r m xs → LeaksLast unbounded S r m xs
-  last-unbounded xs m = last-carries bounded unbounded S r xs m (widen xs)
-
-  pub last-bounded : (xs : List Call) (m : State) → NamesOfFile S xs → LeaksLast unbounded S r m xs → LeaksLast bounded S r m xs
-  last-bounded xs m h = last-carries unbounded bounded S r xs m (narrow xs h)
 
 -- ---- replay of a file and a trace
 -- the file is accepted, the right is below g, and the trace is whole steps

@@ -1,7 +1,7 @@
 -- Demand 2: a rule run on a file does what the model of Harrison, Ruzzo and Ullman says, all its steps or none; it is refused exactly if that model does
 -- not execute it or document 01 forbids it; and the file stays an accepted one with the same rules. Assumes nothing.
-use Prim.Native.Nat.{ℕ, zero, suc, _+_, _*_, _≤_, _<_}
-use mathlib.Core.Path.{_≡_, refl, sym, ap, ap₂, _∙_, subst}
+use Prim.Native.Nat.{ℕ, _+_, _*_, _≤_, _<_}
+use mathlib.Core.Path.{_≡_, refl, sym, ap, _∙_, subst}
 use mathlib.Core.Bool.{Bool, true, false}
 use mathlib.Core.List.{List, [], _∷_}
 use mathlib.Core.Option.{Option, none, some}
@@ -14,27 +14,27 @@ use Rattle.cases.specs.Cases.{pick, each, listed}
 use Rattle.cases.proofs.Bools.{is-true}
 use Rattle.cases.proofs.Lists.{found-listed, none-listed}
 use Rattle.cases.proofs.Loops.{each-at}
-use Rattle.protection.specs.Limits.{names, rights, parameters}
+use Rattle.protection.specs.Limits.{names, parameters}
 use Rattle.protection.specs.State.{State}
-use Rattle.protection.specs.Command.{Operation, Command as ModelCommand, System, Call, Actuals, actuals, valuesOf}
-use Rattle.protection.specs.Execution.{bounded, holdAll, spareExists, actualFits, canDoAll, effectAll, entersAnyNew, Outcome, refused, done, gate, executeCommand, execute}
-use Rattle.protection.specs.Leak.{after}
+use Rattle.protection.specs.Command.{Command as ModelCommand, Call, Actuals, actuals, valuesOf}
+use Rattle.protection.specs.Execution.{bounded, holdAll, spareExists, actualFits, canDoAll, effectAll, entersAnyNew, Outcome, refused, done, gate, executeCommand}
 use Rattle.protection.specs.Paper.{Configuration, configuration, Same, Executes}
-use Rattle.protection.proofs.Model.{Admitted, Agrees, machine-is-model, gates-elim}
+use Rattle.protection.specs.Agreement.{Admitted, Agrees}
+use Rattle.protection.proofs.Model.{machine-is-model, gates-elim}
 use Rattle.protection.specs.Proper.{Proper}
-use Rattle.commands.specs.Contents.{missing, operationBy, operationAt, operationOf, modelOf, meaning}
+use Rattle.commands.specs.Contents.{missing, operationBy, operationOf, modelOf, meaning}
 use Rattle.commands.specs.Fits.{Fits}
 use Rattle.commands.specs.declared.Command.{Command}
 use Rattle.commands.specs.declared.Operation.the-variants.{Enter, Delete, CreateSubject, CreateObject, DestroySubject, DestroyObject}
 use Rattle.layout.specs.File.{rightsOf}
-use Rattle.layout.specs.Refusals.{orElse}
 use Rattle.policy.specs.Refusals.{refusal}
-use Rattle.policy.specs.Contents.{policyOf, systemOf, fileState, fileSystem, written}
+use Rattle.policy.specs.Contents.{policyOf, fileState, fileSystem}
 use Rattle.policy.specs.Fits.{PolicyFits}
 use Rattle.policy.proofs.Accepted.{Accepted, accepted}
 use Rattle.policy.proofs.FileState.{policy-fits, file-proper}
 use Rattle.policy.proofs.Rewritten.{state-written, system-written, rewritten-accepted}
-use Rattle.update.specs.Files.{fileOutcome, codeOf, rewritten, runCode, runFile}
+use Rattle.update.specs.Demand2.{Demand2}
+use Rattle.update.specs.Files.{fileOutcome, codeOf, rewritten, runCode, runFile, FileRun}
 use Rattle.update.proofs.Preserved.{Sound, SoundAll, sound-listed, proper-all}
 
 -- ---- a refusal of the machine is one of 11 to 15
@@ -119,22 +119,7 @@ module _ (f : List ℕ) (A : Accepted f) (x : Call) where
       go (no l) e =
           absurd (let d : refused 11 ≡ done m' new = sym (call none (none-listed (λ j. meaning (code j)) (policyOf f .commands) 0 (x .command) (omega arith))) ∙ e in let z : _≡_ {A = ℕ} 0 1 = cc in omega arith)
 
--- ---- the theorem
-pub record Demand2 (f : List ℕ) (x : Call) : Type 0 where
-  -- a file that is refused: its refusal, and no byte changed
-  pub bad-file : (refusal f ≡ 0 → ⊥) → (runCode f x ≡ refusal f) × (runFile f x ≡ f)
-  -- done: the paper's relation executes the command, to the configuration that the new file holds
-  pub done-executes : refusal f ≡ 0 → runCode f x ≡ 0
-      → (C : ModelCommand) × Admitted bounded (fileSystem f) (fileState f) x C × Executes C (actuals x) (configuration (fileState f)) (configuration (fileState (runFile f x)))
-  -- what the relation executes and document 01 admits is done, to the same configuration
-  pub executes-done : refusal f ≡ 0 → (C : ModelCommand) (E : Configuration) → Admitted bounded (fileSystem f) (fileState f) x C → Executes C (actuals x) (configuration (fileState f)) E
-      → (runCode f x ≡ 0) × Same (configuration (fileState (runFile f x))) E
-  -- refused: no byte changed, and the relation does not execute it or document 01 does not admit it
-  pub refused-why : refusal f ≡ 0 → (runCode f x ≡ 0 → ⊥)
-      → (runFile f x ≡ f) × ((C : ModelCommand) (E : Configuration) → Admitted bounded (fileSystem f) (fileState f) x C → Executes C (actuals x) (configuration (fileState f)) E → ⊥)
-  -- the file stays accepted, with the same rules
-  pub stays : refusal f ≡ 0 → (refusal (runFile f x) ≡ 0) × (fileSystem (runFile f x) ≡ fileSystem f)
-
+-- ---- the theorem, of the answer and the file that are defined
 module _ (f : List ℕ) (x : Call) where
   module _ (z : refusal f ≡ 0) where
     A : Accepted f
@@ -195,7 +180,7 @@ module _ (f : List ℕ) (x : Call) where
       (λ m' new w. let P = done-proper f (A z) x m' new w in (rewritten-accepted f (A z) m' P, system-written f (A z) m' P)) in
       (ap refusal (file-is z) ∙ r .0, ap fileSystem (file-is z) ∙ r .1)
 
-  pub demand2 : Demand2 f x
+  pub demand2 : Demand2 f x (runCode f x) (runFile f x)
   demand2 = record {
     bad-file = bad;
     done-executes = executed;
@@ -203,4 +188,12 @@ module _ (f : List ℕ) (x : Call) where
         (code-is z ∙ ap codeOf (d .2), subst (λ (s : State). Same (configuration s) E) (sym (state-done z (d .0) (d .1) (d .2))) (d .3));
     refused-why = why;
     stays = kept;
+  }
+
+  -- so the two equations are the whole promise
+  pub file-run : (r : ℕ) (f' : List ℕ) → r ≡ runCode f x → f' ≡ runFile f x → FileRun f x r f'
+  file-run r f' e d = record {
+    code = e;
+    file = d;
+    demand2 = subst (λ (n : ℕ). Demand2 f x n f') (sym e) (subst (Demand2 f x (runCode f x)) (sym d) demand2);
   }

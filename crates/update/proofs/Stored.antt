@@ -1,6 +1,6 @@
 -- Writing kinds and cells into the lent file, and what a rule run answers of it. Assumes nothing.
-use Prim.Native.Nat.{ℕ, zero, suc, _+_, _*_, _-_, _≤_, _<_}
-use mathlib.Core.Path.{_≡_, refl, sym, ap, ap₂, _∙_, subst}
+use Prim.Native.Nat.{ℕ, _+_, _-_, _≤_}
+use mathlib.Core.Path.{_≡_, refl, sym, ap, ap₂, _∙_}
 use mathlib.Core.Bool.{Bool, true, false}
 use mathlib.Core.List.{List, [], _∷_, _++_, append-assoc, append-nil}
 use native.Mathlib.Omega.{arith}
@@ -26,7 +26,7 @@ use Rattle.policy.proofs.Laws.{read-refusal}
 use Rattle.policy.proofs.ReadPolicy.{policy-is}
 use Rattle.execution.specs.Runs.{answerOf, outcomeOf, ExecutedAs}
 use Rattle.update.specs.Files.{fileOutcome, runCode, runFile, FileRun}
-use Rattle.execution.specs.declared.Answer.{Answer}
+use Rattle.update.proofs.Demand2.{file-run}
 use Rattle.execution.specs.declared.Answer.the-variants.{Refused, Done, Leaked}
 use Rattle.execution.specs.declared.Executed.{Executed}
 
@@ -88,7 +88,7 @@ module _ (f : List ℕ) (x : PolicyRead) (d : x ≡ policyRead f) (z : x .refuse
           go : (o : Outcome) → fileOutcome f call ≡ o → FileRun f call n f
           go (refused k) w =
               let same : k ≡ n = refused-is k n (sym (answered ∙ ap (answerOf 0) w) ∙ q) in
-              record { code = rw (none-before, w) (sym same); file = rw (none-before, w) }
+              file-run f call n f (rw (none-before, w) (sym same)) (rw (none-before, w))
           go (done m new) w = absurd (done-not n (new 0) (sym (answered ∙ ap (answerOf 0) w) ∙ q))
 
       pub run-done : (b : Bool) (f' : List ℕ) → e .answer ≡ pick b Leaked Done → f' ≡ written f (stateOf (e .matrix)) → FileRun f call 0 f'
@@ -99,7 +99,7 @@ module _ (f : List ℕ) (x : PolicyRead) (d : x ≡ policyRead f) (z : x .refuse
           go (refused k) v = absurd (done-not k b (sym q ∙ (answered ∙ ap (answerOf 0) v)))
           go (done m new) v =
               let s : stateOf (e .matrix) ≡ m = left ∙ ap (λ (o : Outcome). after o (fileState f)) v in
-              record { code = rw (none-before, v); file = w ∙ ap (written f) s ∙ sym (rw (none-before, v)) }
+              file-run f call 0 f' (rw (none-before, v)) (w ∙ ap (written f) s ∙ sym (rw (none-before, v)))
 
       pub run-quiet : (f' : List ℕ) → e .answer ≡ Done → f' ≡ written f (stateOf (e .matrix)) → FileRun f call 0 f'
       run-quiet = run-done false
@@ -112,4 +112,4 @@ unfolding runCode runFile
 run-bad-file f x c d ne =
     let w : refusal f ≡ x .refused = sym (read-refusal f x d) in
     let z : eqb (x .refused) 0 ≡ false = ne-eqb (x .refused) 0 ne in
-    record { code = rw (w, z); file = rw (w, z) }
+    file-run f c (x .refused) f (rw (w, z)) (rw (w, z))

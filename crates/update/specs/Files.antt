@@ -9,6 +9,7 @@ use Rattle.protection.specs.Execution.{bounded, Outcome, refused, done, execute
 use Rattle.layout.specs.Refusals.{orElse}
 use Rattle.policy.specs.Refusals.{refusal}
 use Rattle.policy.specs.Contents.{fileState, fileSystem, written}
+use Rattle.update.specs.Demand2.{Demand2}
 
 -- the call on the file's matrix
 abbrev pub fileOutcome : List ℕ → Call → Outcome
@@ -31,7 +32,8 @@ runCode f x = orElse (refusal f) (codeOf (fileOutcome f x))
 unfoldable pub runFile : List ℕ → Call → List ℕ
 runFile f x = pick (eqb (refusal f) 0) (rewritten f (fileOutcome f x)) f
 
--- what a rule run answers, and every byte of the file after it
+-- what a rule run promises: of every input the answer and every byte of the file after it, and demand 2
 pub record FileRun (f : List ℕ) (x : Call) (r : ℕ) (f' : List ℕ) : Type 0 where
   pub code : r ≡ runCode f x
   pub file : f' ≡ runFile f x
+  pub demand2 : Demand2 f x r f'

@@ -1,0 +1,82 @@
+-- What follows from `Settled`, from `Admitted` and from `Agrees` alone, a sentence for each field. Assumes nothing.
+use mathlib.Core.Path.{_≡_, refl, sym, ap, subst}
+use mathlib.Core.Bool.{Bool, not}
+use mathlib.Core.Logic.{_⊎_, inl, inr, ⊎-elim}
+use mathlib.Core.Option.{some}
+use Prim.Native.Nat.{ℕ, _≤_, _<_}
+use native.Mathlib.Omega.{arith}
+use borrow.Author.Tests.{lt-ltb}
+use lib.Dec.{T, T-not}
+use lib.ListN.{getElem?}
+use Rattle.cases.proofs.Bools.{or-cases}
+use Rattle.cases.proofs.Loops.{each-one}
+use Rattle.protection.specs.Limits.{parameters}
+use Rattle.protection.specs.State.{State, objectIn}
+use Rattle.protection.specs.Size.{stepBound}
+use Rattle.protection.specs.Command.{Command, System, Call, actuals, named}
+use Rattle.protection.specs.Execution.{actualFits, spareExists, Outcome, refused, done, execute}
+use Rattle.protection.specs.Leak.{after}
+use Rattle.protection.specs.Paper.{Configuration, configuration, Same, Executes}
+use Rattle.protection.specs.Judge.{opened, round, rounds, conclude, allRounds, judge, Settled}
+use Rattle.protection.specs.Agreement.{Admitted, Agrees}
+
+module _ (S : System) (r : ℕ) (m : State) (K : Settled S r m) where
+  -- where no enter of r ended the rounds, another round does nothing
+  pub settled-still : T (not (allRounds S r m .ended)) → round S r (allRounds S r m) ≡ allRounds S r m
+  settled-still going = ⊎-elim (λ t. absurd (T-not (allRounds S r m .ended) going t)) (λ e. e) (K .ends)
+
+  -- a judge with more fuel is the same judge
+  pub any-fuel : (fuel : ℕ) → stepBound (S .rights) m ≤ fuel → conclude S r m (rounds S r fuel (opened m)) ≡ judge S r m
+  unfolding judge
+  any-fuel fuel l = ap (conclude S r m) (K .enough fuel l)
+
+module _ (nameable : ℕ → Bool) (S : System) (m : State) (x : Call) (C : Command) (A : Admitted nameable S m x C) where
+  -- a call that is admitted is one of a command that is there
+  pub admitted-there : getElem? (S .commands) (x .command) ≡ some C
+  admitted-there = A .found
+
+  -- each parameter gets a name
+  pub admitted-name : C .parameters ≤ parameters → (b : ℕ) → b < C .parameters → T (nameable (actuals x b))
+  admitted-name few b l =
+      let t : T (actualFits nameable (C .parameters) (actuals x) b) = each-one (actualFits nameable (C .parameters) (actuals x)) parameters 0 (A .fit) b (omega arith) (omega arith) in
+      rw (lt-ltb b (C .parameters) l) at t
+
+  -- and one that nothing names an existing one
+  pub admitted-spare : (b : ℕ) → b < C .parameters → T (not (named C b)) → T (objectIn m (actuals x b))
+  admitted-spare b l unnamed =
+      let t : T (spareExists C m (actuals x) b) = each-one (spareExists C m (actuals x)) (C .parameters) 0 (A .spare) b (omega arith) (omega arith) in
+      ⊎-elim (λ n. absurd (T-not (named C b) unnamed n)) (λ e. e) (or-cases (named C b) (objectIn m (actuals x b)) t)
+
+module _ (nameable : ℕ → Bool) (S : System) (m : State) (x : Call) (A : Agrees nameable S m x) where
+  -- what the machine leaves of the call
+  abbrev left : State
+  left = after (execute nameable S m x) m
+
+  abbrev Refused : Type 0
+  Refused = (n : ℕ) × (execute nameable S m x ≡ refused n)
+
+  -- document 01 admits the call, and the relation executes the command to E
+  abbrev ExecutedTo : Configuration → Type 0
+  ExecutedTo E = (C : Command) × Admitted nameable S m x C × Executes C (actuals x) (configuration m) E
+
+  -- a call is refused, or the relation executes it to what the machine leaves
+  pub refused-or-executed : Refused ⊎ ExecutedTo (configuration left)
+  refused-or-executed = go (execute nameable S m x) refl
+    where
+      go : (o : Outcome) → execute nameable S m x ≡ o → Refused ⊎ ExecutedTo (configuration left)
+      go (refused n) e = inl (n, e)
+      go (done m' new) e = inr (subst (λ (o : Outcome). ExecutedTo (configuration (after o m))) (sym e) (A .done-executes m' new e))
+
+  -- and to nothing else
+  pub executed-to-left : (E : Configuration) → ExecutedTo E → Same (configuration left) E
+  executed-to-left E y =
+      let d = A .executes-done (y .0) E (y .1) (y .2) in
+      subst (λ (o : Outcome). Same (configuration (after o m)) E) (sym (d .2)) (d .3)
+
+  -- never both
+  pub never-both : Refused → (E : Configuration) → ExecutedTo E → ⊥
+  never-both R E y = A .refused-exactly .0 R (y .0) E (y .1) (y .2)
+
+  -- and where the relation does nothing, it is refused
+  pub refused-else : ((E : Configuration) → ExecutedTo E → ⊥) → Refused
+  refused-else f = A .refused-exactly .1 (λ C E a y. f E (C, a, y))

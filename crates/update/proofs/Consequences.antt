@@ -1,0 +1,89 @@
+-- What follows from demand 2 alone, whatever the answer and the file after it: at least a sentence for each field. Assumes nothing.
+use Prim.Native.Nat.{ℕ, _≤_, _<_}
+use mathlib.Core.Path.{_≡_, refl, sym, _∙_}
+use mathlib.Core.List.{List}
+use mathlib.Core.Logic.{_↔_, _⊎_, inl, inr}
+use mathlib.Core.Option.{some}
+use native.Mathlib.Decide.{ℕ-discrete}
+use lib.Dec.{ltb→lt}
+use lib.ListN.{getElem?}
+use Rattle.protection.specs.Limits.{names, parameters}
+use Rattle.protection.specs.Command.{Command, Call, actuals}
+use Rattle.protection.specs.Execution.{bounded}
+use Rattle.protection.specs.Paper.{Configuration, configuration, Same, Executes}
+use Rattle.protection.specs.Agreement.{Admitted}
+use Rattle.protection.proofs.Consequences.{admitted-name}
+use Rattle.policy.specs.Refusals.{refusal}
+use Rattle.policy.specs.Contents.{fileState, fileSystem}
+use Rattle.update.specs.Demand2.{Demand2}
+
+-- document 01 admits the call, and the paper's relation executes the command from the file's configuration to E
+pub record Executed (f : List ℕ) (x : Call) (E : Configuration) : Type 0 where
+  pub command : Command
+  pub admitted : Admitted bounded (fileSystem f) (fileState f) x command
+  pub executes : Executes command (actuals x) (configuration (fileState f)) E
+
+module _ (f : List ℕ) (x : Call) (r : ℕ) (f' : List ℕ) (D : Demand2 f x r f') where
+  -- a refused rule run, for whatever reason, changes no byte
+  pub refused-unchanged : (r ≡ 0 → ⊥) → f' ≡ f
+  refused-unchanged n = go (ℕ-discrete (refusal f) 0)
+    where
+      go : Dec (refusal f ≡ 0) → f' ≡ f
+      go (yes z) = D .refused-why z n .0
+      go (no z) = D .bad-file z .1
+
+  -- none is done on a file that is refused
+  pub done-accepted : r ≡ 0 → refusal f ≡ 0
+  done-accepted e = go (ℕ-discrete (refusal f) 0)
+    where
+      go : Dec (refusal f ≡ 0) → refusal f ≡ 0
+      go (yes z) = z
+      go (no z) = sym (D .bad-file z .0) ∙ e
+
+  -- a done one ends in a configuration that the relation gives
+  pub done-executed : r ≡ 0 → Executed f x (configuration (fileState f'))
+  done-executed e = let d = D .done-executes (done-accepted e) e in record { command = d .0; admitted = d .1; executes = d .2 }
+
+  -- it is done exactly where the file is accepted and the relation executes it
+  pub done-exactly : (r ≡ 0) ↔ ((refusal f ≡ 0) × ((E : Configuration) × Executed f x E))
+  done-exactly = (
+    λ e. (done-accepted e, (configuration (fileState f'), done-executed e)),
+    λ w. let y = w .1 .1 in D .executes-done (w .0) (y .command) (w .1 .0) (y .admitted) (y .executes) .0,
+  )
+
+  -- all its steps or none: the file is as it was, or holds what the relation gives
+  pub all-or-none : (f' ≡ f) ⊎ Executed f x (configuration (fileState f'))
+  all-or-none = go (ℕ-discrete r 0)
+    where
+      go : Dec (r ≡ 0) → (f' ≡ f) ⊎ Executed f x (configuration (fileState f'))
+      go (yes e) = inr (done-executed e)
+      go (no n) = inl (refused-unchanged n)
+
+  -- on an accepted file the relation gives one configuration at most, the one that the new file holds
+  pub one-end : refusal f ≡ 0 → (E : Configuration) → Executed f x E → Same (configuration (fileState f')) E
+  one-end z E y = D .executes-done z (y .command) E (y .admitted) (y .executes) .1
+
+  -- what is refused on an accepted file, the relation does not execute
+  pub refused-not-executed : refusal f ≡ 0 → (r ≡ 0 → ⊥) → (E : Configuration) → Executed f x E → ⊥
+  refused-not-executed z n E y = D .refused-why z n .1 (y .command) E (y .admitted) (y .executes)
+
+  -- a done one gives the parameters of its command names 0 to 31
+  pub done-names : r ≡ 0 → (C : Command) → getElem? (fileSystem f .commands) (x .command) ≡ some C → C .parameters ≤ parameters → (b : ℕ) → b < C .parameters → actuals x b < names
+  done-names e C found few b l =
+      let y = done-executed e in
+      let same : y .command ≡ C = cc (y .admitted .found) in
+      let A : Admitted bounded (fileSystem f) (fileState f) x C = rw same at (y .admitted) in
+      ltb→lt (actuals x b) names (admitted-name bounded (fileSystem f) (fileState f) x C A few b l)
+
+-- rule runs one after the other, done and refused ones, each with an answer and a file that meet demand 2
+pub data Runs (f : List ℕ) : List ℕ → Type 0 where
+  start : Runs f f
+  next : {f' f'' : List ℕ} → Runs f f' → (x : Call) (r : ℕ) → Demand2 f' x r f'' → Runs f f''
+
+-- an accepted file stays accepted, with the rules that it had
+pub runs-stay : {f f' : List ℕ} → Runs f f' → refusal f ≡ 0 → (refusal f' ≡ 0) × (fileSystem f' ≡ fileSystem f)
+runs-stay start z = (z, refl)
+runs-stay (next R x r D) z =
+    let before = runs-stay R z in
+    let after = D .stays (before .0) in
+    (after .0, after .1 ∙ before .1)
