@@ -1,75 +1,87 @@
 -- Every row of the table holds, by computation. Assumes nothing.
 use Prim.Native.Nat.{ℕ}
-use mathlib.Core.Path.{_≡_, refl, subst}
-use mathlib.Core.List.{List, [], _∷_}
-use lib.Dec.{eqb}
-use lib.ListN.{length}
-use Rattle.cases.specs.Cases.{pick, turns, each}
+use mathlib.Core.Path.{_≡_, refl}
+use mathlib.Core.List.{List, [], _∷_, _++_}
+use Rattle.cases.specs.Cases.{turns, each}
+use Rattle.rights.specs.Rights.{number}
 use Rattle.protection.specs.Judge.{lowestAbsent, rounds, count, judge}
+use Rattle.matrix.specs.Bytes.{kindsOf, cellsOf}
+use Rattle.matrix.specs.Refusals.{cellFits, matrixRefusal}
 use Rattle.layout.specs.File.{startOf}
-use Rattle.layout.specs.Refusals.{orElse, headerRefusal, pairsRefusal, sizesRefusal}
+use Rattle.layout.specs.Refusals.{headerRefusal, pairsRefusal, sizesRefusal}
 use Rattle.commands.specs.Refusals.{conditionFits, operationFits, commandRefusal}
 use Rattle.commands.specs.Contents.{commandOf}
-use Rattle.policy.specs.Refusals.{commandsRefusal, refusal}
-use Rattle.policy.specs.Contents.{commandTable, policyOf}
-use Rattle.update.specs.Files.{fileOutcome, codeOf, rewritten, runCode, runFile}
-use Rattle.safety.specs.Judgement.{callerRefusal, judgeRefusal, fileVerdict, judgementOf, fileJudgement, filled, fileBuffer}
-use Rattle.safety.specs.declared.Judgement.{Judgement}
-use Rattle.safety.specs.declared.Judgement.the-variants.{Refused}
-use Rattle.listing.specs.Listing.{digits, printed, bufferBytes}
-use Rattle.examples.specs.Table.{Case, judges, prints, runs, Holds, AllHold, table}
-use Rattle.examples.proofs.Walk.{walkedRefusal, refusal-walked}
+use Rattle.policy.specs.Refusals.{commandsRefusal}
+use Rattle.policy.specs.Contents.{commandTable, policyOf, written}
+use Rattle.trace.specs.Replays.{replayFrom}
+use Rattle.safety.specs.Judgement.{callerRefusal}
+use Rattle.listing.specs.Listing.{digits}
+use Rattle.examples.specs.Slips.{slips}
+use Rattle.examples.specs.Files.{headers, matrices, rules}
+use Rattle.examples.specs.Runs.{refusedRuns, doneRuns}
+use Rattle.examples.specs.Replays.{replayed}
+use Rattle.examples.specs.Judgements.{askedOf, entered, created, closed}
+use Rattle.examples.specs.Table.{parts, table, AllCases}
+use Rattle.examples.proofs.Tests.{failing, NoneFail, none-fail}
 
--- ---- what a row claims, with a number z in place of its file's refusal
-abbrev refusalAt : ℕ → List ℕ → ℕ → ℕ → ℕ
-refusalAt z f r n = orElse z (callerRefusal (policyOf f) r n)
+-- what the rows are computed by: whoever unfolds this unfolds all of it
+computed : Unit {0}
+unfolding turns each number lowestAbsent rounds count judge kindsOf cellsOf cellFits matrixRefusal startOf headerRefusal pairsRefusal sizesRefusal conditionFits operationFits commandRefusal commandOf commandsRefusal commandTable policyOf written replayFrom callerRefusal digits
+computed = tt
 
-abbrev answerAt : ℕ → List ℕ → ℕ → ℕ → Judgement
-answerAt z f r n = pick (eqb (refusalAt z f r n) 0) (judgementOf (fileVerdict f r)) (Refused (refusalAt z f r n))
+-- ---- the rows that fail, part by part
+slips-hold : failing slips ≡ []
+unfolding computed
+slips-hold = refl
 
-abbrev ClaimAt : ℕ → Case → Type 0
-ClaimAt z (judges f r b answer b') = (answer ≡ answerAt z f r (length b)) × (b' ≡ pick (eqb (refusalAt z f r (length b)) 0) (filled (fileVerdict f r .steps) b) b)
-ClaimAt z (prints r f out) = out ≡ printed (policyOf f) (answerAt z f r bufferBytes) (fileVerdict f r .steps)
-ClaimAt z (runs f x n f') = (n ≡ orElse z (codeOf (fileOutcome f x))) × (f' ≡ pick (eqb z 0) (rewritten f (fileOutcome f x)) f)
+headers-hold : failing headers ≡ []
+unfolding computed
+headers-hold = refl
 
-abbrev fileIn : Case → List ℕ
-fileIn (judges f r b answer b') = f
-fileIn (prints r f out) = f
-fileIn (runs f x n f') = f
+matrices-hold : failing matrices ≡ []
+unfolding computed
+matrices-hold = refl
 
-claimed : (c : Case) → ClaimAt (refusal (fileIn c)) c → Holds c
-unfolding judgeRefusal fileJudgement fileBuffer runCode runFile
-claimed (judges f r b answer b') (h, k) = record { answer-is = h; buffer-is = k }
-claimed (prints r f out) h = h
-claimed (runs f x n f') (h, k) = record { code = h; file = k }
+rules-hold : failing rules ≡ []
+unfolding computed
+rules-hold = refl
 
--- ---- the rows, with the walk over the cells
-abbrev Claims : List Case → Type 0
-Claims [] = Unit {0}
-Claims (c ∷ cs) = ClaimAt (walkedRefusal (fileIn c)) c × Claims cs
+refused-runs-hold : failing refusedRuns ≡ []
+unfolding computed
+refused-runs-hold = refl
 
--- a row's proof before those of the rows behind it
+done-runs-hold : failing doneRuns ≡ []
+unfolding computed
+done-runs-hold = refl
+
+replayed-hold : failing replayed ≡ []
+unfolding computed
+replayed-hold = refl
+
+asked-of-hold : failing askedOf ≡ []
+unfolding computed
+asked-of-hold = refl
+
+entered-hold : failing entered ≡ []
+unfolding computed
+entered-hold = refl
+
+created-hold : failing created ≡ []
+unfolding computed
+created-hold = refl
+
+closed-hold : failing closed ≡ []
+unfolding computed
+closed-hold = refl
+
+-- ---- the claim
+-- a part before those behind it
 infixr 40 _▸_
 abbrev _▸_ : {A B : Type 0} → A → B → A × B
 a ▸ b = (a, b)
 
-all-claimed : (cs : List Case) → Claims cs → AllHold cs
-all-claimed [] h = tt
-all-claimed (c ∷ cs) (h, hs) = (claimed c (subst (λ z. ClaimAt z c) (refusal-walked (fileIn c)) h), all-claimed cs hs)
+none : NoneFail parts
+none = slips-hold ▸ headers-hold ▸ matrices-hold ▸ rules-hold ▸ refused-runs-hold ▸ done-runs-hold ▸ replayed-hold ▸ asked-of-hold ▸ entered-hold ▸ created-hold ▸ closed-hold ▸ tt
 
-rows : Claims table
-unfolding turns each startOf headerRefusal pairsRefusal sizesRefusal conditionFits operationFits commandRefusal commandsRefusal commandOf commandTable policyOf lowestAbsent rounds count judge callerRefusal digits
-rows =
-    refl ▸ (refl, refl) ▸ (refl, refl) ▸
-    (refl, refl) ▸ refl ▸
-    (refl, refl) ▸ refl ▸
-    (refl, refl) ▸ refl ▸
-    (refl, refl) ▸ refl ▸
-    (refl, refl) ▸ refl ▸
-    (refl, refl) ▸ refl ▸
-    (refl, refl) ▸ refl ▸
-    (refl, refl) ▸
-    (refl, refl) ▸ tt
-
-pub all-cases : AllHold table
-all-cases = all-claimed table rows
+pub all-cases : AllCases table
+all-cases = record { named = refl; every-refusal = refl; hold = none-fail parts none }
