@@ -1,3 +1,5 @@
+pub mod Names
+mod Readings
 pub mod Model
 pub mod Calls
 pub mod Closed
