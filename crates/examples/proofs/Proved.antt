@@ -2,77 +2,59 @@
 use Prim.Native.Nat.{ℕ}
 use mathlib.Core.Path.{_≡_, refl}
 use mathlib.Core.List.{List, [], _∷_, _++_}
-use Rattle.cases.specs.Cases.{turns, each}
-use Rattle.rights.specs.Rights.{number}
-use Rattle.protection.specs.Judge.{lowestAbsent, rounds, count, judge}
-use Rattle.matrix.specs.Bytes.{kindsOf, cellsOf}
-use Rattle.matrix.specs.Refusals.{cellFits, matrixRefusal}
-use Rattle.layout.specs.File.{startOf}
-use Rattle.layout.specs.Refusals.{headerRefusal, pairsRefusal, sizesRefusal}
-use Rattle.commands.specs.Refusals.{conditionFits, operationFits, commandRefusal}
-use Rattle.commands.specs.Contents.{commandOf}
-use Rattle.policy.specs.Refusals.{commandsRefusal}
-use Rattle.policy.specs.Contents.{commandTable, policyOf, written}
-use Rattle.trace.specs.Replays.{replayFrom}
-use Rattle.safety.specs.Judgement.{callerRefusal}
-use Rattle.listing.specs.Listing.{digits}
-use Rattle.examples.specs.Slips.{slips}
-use Rattle.examples.specs.Files.{headers, matrices, rules}
-use Rattle.examples.specs.Runs.{refusedRuns, doneRuns}
-use Rattle.examples.specs.Replays.{replayed}
-use Rattle.examples.specs.Judgements.{askedOf, entered, created, closed}
+use Rattle.examples.specs.Slips.{slipCases}
+use Rattle.examples.specs.Files.{headerCases, matrixCases, ruleCases}
+use Rattle.examples.specs.Runs.{refusedCases, doneCases}
+use Rattle.examples.specs.Replays.{replayCases}
+use Rattle.examples.specs.Judgements.{callerCases, roundCases, createCases, closingCases}
 use Rattle.examples.specs.Table.{parts, table, AllCases}
+use Rattle.examples.proofs.Computed.{computed}
 use Rattle.examples.proofs.Tests.{failing, NoneFail, none-fail}
 
--- what the rows are computed by: whoever unfolds this unfolds all of it
-computed : Unit {0}
-unfolding turns each number lowestAbsent rounds count judge kindsOf cellsOf cellFits matrixRefusal startOf headerRefusal pairsRefusal sizesRefusal conditionFits operationFits commandRefusal commandOf commandsRefusal commandTable policyOf written replayFrom callerRefusal digits
-computed = tt
-
 -- ---- the rows that fail, part by part
-slips-hold : failing slips ≡ []
+slipCases-hold : failing slipCases ≡ []
 unfolding computed
-slips-hold = refl
+slipCases-hold = refl
 
-headers-hold : failing headers ≡ []
+headerCases-hold : failing headerCases ≡ []
 unfolding computed
-headers-hold = refl
+headerCases-hold = refl
 
-matrices-hold : failing matrices ≡ []
+matrixCases-hold : failing matrixCases ≡ []
 unfolding computed
-matrices-hold = refl
+matrixCases-hold = refl
 
-rules-hold : failing rules ≡ []
+ruleCases-hold : failing ruleCases ≡ []
 unfolding computed
-rules-hold = refl
+ruleCases-hold = refl
 
-refused-runs-hold : failing refusedRuns ≡ []
+refusedCases-hold : failing refusedCases ≡ []
 unfolding computed
-refused-runs-hold = refl
+refusedCases-hold = refl
 
-done-runs-hold : failing doneRuns ≡ []
+doneCases-hold : failing doneCases ≡ []
 unfolding computed
-done-runs-hold = refl
+doneCases-hold = refl
 
-replayed-hold : failing replayed ≡ []
+replayCases-hold : failing replayCases ≡ []
 unfolding computed
-replayed-hold = refl
+replayCases-hold = refl
 
-asked-of-hold : failing askedOf ≡ []
+callerCases-hold : failing callerCases ≡ []
 unfolding computed
-asked-of-hold = refl
+callerCases-hold = refl
 
-entered-hold : failing entered ≡ []
+roundCases-hold : failing roundCases ≡ []
 unfolding computed
-entered-hold = refl
+roundCases-hold = refl
 
-created-hold : failing created ≡ []
+createCases-hold : failing createCases ≡ []
 unfolding computed
-created-hold = refl
+createCases-hold = refl
 
-closed-hold : failing closed ≡ []
+closingCases-hold : failing closingCases ≡ []
 unfolding computed
-closed-hold = refl
+closingCases-hold = refl
 
 -- ---- the claim
 -- a part before those behind it
@@ -81,7 +63,7 @@ abbrev _▸_ : {A B : Type 0} → A → B → A × B
 a ▸ b = (a, b)
 
 none : NoneFail parts
-none = slips-hold ▸ headers-hold ▸ matrices-hold ▸ rules-hold ▸ refused-runs-hold ▸ done-runs-hold ▸ replayed-hold ▸ asked-of-hold ▸ entered-hold ▸ created-hold ▸ closed-hold ▸ tt
+none = slipCases-hold ▸ headerCases-hold ▸ matrixCases-hold ▸ ruleCases-hold ▸ refusedCases-hold ▸ doneCases-hold ▸ replayCases-hold ▸ callerCases-hold ▸ roundCases-hold ▸ createCases-hold ▸ closingCases-hold ▸ tt
 
 pub all-cases : AllCases table
 all-cases = record { named = refl; every-refusal = refl; hold = none-fail parts none }

@@ -21,6 +21,7 @@ abbrev pub pairsFrom : ℕ → List (List ℕ) → List ℕ
 pairsFrom at [] = []
 pairsFrom at (s ∷ ss) = pair at (length s) (pairsFrom (at + length s) ss)
 
+-- lists one behind the other
 abbrev pub joined : {A : Type 0} → List (List A) → List A
 joined [] = []
 joined (s ∷ ss) = s ++ joined ss
@@ -55,7 +56,7 @@ objectsBelow (suc n) = anObject n ∷ objectsBelow n
 abbrev pub cellWith : ℕ → ℕ → ℕ → CellAt
 cellWith s o byte = record { subject = s; object = o; rights = byte }
 
--- 32 kinds and 1,024 cells, 0 where nothing else is said
+-- 32 kinds and 1,024 cells, 0 where nothing else is said; of two that are said of one name or cell the first stands
 abbrev pub kindBytes : List KindAt → List ℕ
 kindBytes [] = replicate 32 0
 kindBytes (k ∷ ks) = set (kindBytes ks) (k .name) (k .kind)
@@ -94,6 +95,13 @@ destroyObject x = step 6 0 x 0
 -- a rule's section: blanks, the conditions' bytes, the steps' bytes
 abbrev pub ruleBytes : ℕ → List (List ℕ) → List (List ℕ) → List ℕ
 ruleBytes k conditions steps = k ∷ length conditions ∷ length steps ∷ (joined conditions ++ joined steps)
+
+-- a rule of one step and no condition: (a), (a,b)
+abbrev pub onName : List ℕ → List ℕ
+onName o = ruleBytes 1 [] (o ∷ [])
+
+abbrev pub onCell : List ℕ → List ℕ
+onCell o = ruleBytes 2 [] (o ∷ [])
 
 -- the whole file: rights, kinds, cells, rules
 abbrev pub fileOf : ℕ → List KindAt → List CellAt → List (List ℕ) → List ℕ

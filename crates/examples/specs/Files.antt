@@ -3,12 +3,12 @@
 use Prim.Native.Nat.{ℕ}
 use mathlib.Core.List.{List, [], _∷_}
 use lib.ListN.{replicate}
-use Rattle.examples.specs.Build.{pair, fileWith, anObject, aSubject, CellAt, cellWith, ifIn, step, enter, delete, createSubject, createObject, destroySubject, destroyObject, ruleBytes, fileOf}
+use Rattle.examples.specs.Build.{pair, fileWith, anObject, aSubject, CellAt, cellWith, ifIn, step, enter, delete, createSubject, createObject, destroySubject, destroyObject, ruleBytes, onName, onCell, fileOf}
 use Rattle.examples.specs.Cases.{checks, Row, row}
 
 -- the first bytes and the pairs alone: no section is there, or they are too short
-abbrev pub headers : List Row
-headers =
+abbrev pub headerCases : List Row
+headerCases =
     -- "1 fewer than 2 bytes, more than 4,096"
     row "1: no byte" (checks [] 1) ∷
     row "1: one byte, before 2" (checks (9 ∷ []) 1) ∷
@@ -45,8 +45,8 @@ noBytes = []
 abbrev pub oneCell : CellAt → List ℕ
 oneCell c = fileOf 2 (aSubject 0 ∷ anObject 1 ∷ []) (c ∷ []) (noBytes ∷ [])
 
-abbrev pub matrices : List Row
-matrices =
+abbrev pub matrixCases : List Row
+matrixCases =
     -- "6 a kind above 2"
     row "6: the last kind 3, before 7" (checks (fileOf 1 (record { name = 31; kind = 3 } ∷ []) (cellWith 0 0 255 ∷ []) []) 6) ∷
     row "7: the last kind 2" (checks (fileOf 1 (record { name = 31; kind = 2 } ∷ []) (cellWith 0 0 255 ∷ []) []) 7) ∷
@@ -70,10 +70,10 @@ abbrev pub condition : List ℕ → List ℕ
 condition c = withRules (ruleBytes 2 (c ∷ []) (enter 0 0 0 ∷ []) ∷ noBytes ∷ [])
 
 abbrev pub operation : List ℕ → List ℕ
-operation o = withRules (ruleBytes 2 [] (o ∷ []) ∷ noBytes ∷ [])
+operation o = withRules (onCell o ∷ noBytes ∷ [])
 
-abbrev pub rules : List Row
-rules =
+abbrev pub ruleCases : List Row
+ruleCases =
     -- "rule by rule 5 (under 3), 8, 5, 9"
     row "5: a rule of 2 bytes, before 8" (checks (withRules ((5 ∷ 5 ∷ []) ∷ [])) 5) ∷
     -- "8 k, c or m out of range": "blanks k, 1 to 4", "conditions c, 0 to 4", "steps m, 1 to 6"; the length, 5, is wrong too
@@ -114,5 +114,5 @@ rules =
     (ifIn 1 3 3 ∷ ifIn 1 3 3 ∷ ifIn 1 3 3 ∷ ifIn 1 3 3 ∷ [])
     (enter 1 3 3 ∷ delete 1 3 3 ∷ createSubject 3 ∷ createObject 3 ∷ destroySubject 3 ∷ destroyObject 3 ∷ []) ∷ []))
     0) ∷
-    row "accepted: 34 pairs" (checks (withRules (replicate 32 (ruleBytes 1 [] (createSubject 0 ∷ [])))) 0) ∷
+    row "accepted: 34 pairs" (checks (withRules (replicate 32 (onName (createSubject 0)))) 0) ∷
     []

@@ -1,4 +1,4 @@
--- Document 01's own cases ("Proof slips": P1 to P10).
+-- Document 01's own cases ("Proof slipCases": P1 to P10).
 use Prim.Native.Nat.{ℕ}
 use mathlib.Core.List.{List, [], _∷_}
 use Rattle.safety.specs.declared.Judgement.the-variants.{Refused, Safe, Unsafe}
@@ -55,8 +55,8 @@ file9 = oneSubject (ruleBytes 2 [] (enter 0 0 1 ∷ destroySubject 0 ∷ enter 0
 abbrev pub file10 : List ℕ
 file10 = oneSubject (ruleBytes 1 [] (createSubject 0 ∷ []) ∷ [])
 
-abbrev pub slips : List Row
-slips =
+abbrev pub slipCases : List Row
+slipCases =
     -- "Right 1. Whole listing:" `UNSAFE 1`, `0 0 0 2`
     row "P1 listing" (prints (1 ∷ file1) (text "UNSAFE 1\n0 0 0 2\n")) ∷
     -- "Buffer at least 170 bytes; 169 is refused 24." "A refusal .. changes no lent byte."

@@ -1,5 +1,5 @@
 -- The table of cases, and what is claimed of it: "P1 to P10, proved together as a table with a claim over all its rows", and cases for what document 01
--- says besides, so that a sentence read otherwise, in the definitions and in the code together, fails a row.
+-- says besides, so that a sentence read otherwise, in the definitions and in the code together, fails a row. Most names begin with what the row answers.
 use Prim.Native.Nat.{ℕ}
 use Prim.Native.String.{String}
 use mathlib.Core.Path.{_≡_}
@@ -13,14 +13,14 @@ use Rattle.safety.specs.declared.Judgement.{Judgement}
 use Rattle.safety.specs.declared.Judgement.the-variants.{Refused, Safe, Unsafe}
 use Rattle.examples.specs.Build.{joined}
 use Rattle.examples.specs.Cases.{Case, checks, runs, replays, judges, prints, Row, namesOf, AllHold}
-use Rattle.examples.specs.Slips.{slips}
-use Rattle.examples.specs.Files.{headers, matrices, rules}
-use Rattle.examples.specs.Runs.{refusedRuns, doneRuns}
-use Rattle.examples.specs.Replays.{replayed}
-use Rattle.examples.specs.Judgements.{askedOf, entered, created, closed}
+use Rattle.examples.specs.Slips.{slipCases}
+use Rattle.examples.specs.Files.{headerCases, matrixCases, ruleCases}
+use Rattle.examples.specs.Runs.{refusedCases, doneCases}
+use Rattle.examples.specs.Replays.{replayCases}
+use Rattle.examples.specs.Judgements.{callerCases, roundCases, createCases, closingCases}
 
 abbrev pub parts : List (List Row)
-parts = slips ∷ headers ∷ matrices ∷ rules ∷ refusedRuns ∷ doneRuns ∷ replayed ∷ askedOf ∷ entered ∷ created ∷ closed ∷ []
+parts = slipCases ∷ headerCases ∷ matrixCases ∷ ruleCases ∷ refusedCases ∷ doneCases ∷ replayCases ∷ callerCases ∷ roundCases ∷ createCases ∷ closingCases ∷ []
 
 abbrev pub table : List Row
 table = joined parts
