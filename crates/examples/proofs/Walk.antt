@@ -1,12 +1,15 @@
 -- A file's refusal, computed with one walk over its 1,024 cells, where the definition looks each of them up from the front. Assumes nothing.
-use Prim.Native.Nat.{ℕ, zero, suc, _+_, _*_, _/_, _%_}
-use native.Mathlib.Nat.{zero-add, add-zero, add-suc, suc-add}
+use Prim.Native.Nat.{ℕ, zero, suc, _+_, _*_, _/_, _%_, _^_}
+use native.Mathlib.Nat.{zero-add, add-zero, add-suc, suc-add, one-le-pow}
+use native.Mathlib.Omega.{arith}
 use mathlib.Core.Path.{_≡_, refl, sym, ap, subst, _∙_}
 use mathlib.Core.Bool.{Bool, true, false}
 use mathlib.Core.List.{List, [], _∷_}
-use lib.Dec.{eqb}
+use lib.Dec.{eqb, ltb}
 use lib.ListN.{getD}
+use borrow.Author.Tests.{eqb-true, lt-ltb, le-ltb}
 use Rattle.cases.specs.Cases.{pick, each}
+use Rattle.cases.proofs.Loops.{each-all}
 use Rattle.rights.specs.Rights.{within}
 use Rattle.protection.specs.Limits.{names}
 use Rattle.matrix.specs.Bytes.{inside}
@@ -41,17 +44,52 @@ module _ (p : ℕ → ℕ → Bool) (q : ℕ → Bool) where
       ap (λ b. pick b (each q n (suc j)) false) (here (x ∷ l) j h)
       ∙ ap (λ b. pick (p x j) b false) (each-is-walk n l (suc j) (λ i. further j i (getD l i 0) (h (suc i))))
 
--- what `cellFits` asks of a byte at a place
+-- ---- the cells
+none-within : (g : ℕ) → within 0 g ≡ true
+none-within g = lt-ltb 0 (2 ^ g) (one-le-pow g 2 (omega arith))
+
+-- what `cellFits` asks of a byte at a place; most bytes are 0, and fit everywhere
 abbrev pub fits : ℕ → List ℕ → ℕ → ℕ → Bool
-fits g ks x c = pick (within x g) (pick (inside ks (c / names) (c % names)) true (eqb x 0)) false
+fits g ks x c = pick (eqb x 0) true (pick (within x g) (inside ks (c / names) (c % names)) false)
+
+byte-fits : (g : ℕ) (b : Bool) (x : ℕ) → pick (within x g) (pick b true (eqb x 0)) false ≡ pick (eqb x 0) true (pick (within x g) b false)
+byte-fits g b x = go (eqb x 0) b refl
+  where
+    go : (z b : Bool) → eqb x 0 ≡ z → pick (within x g) (pick b true z) false ≡ pick z true (pick (within x g) b false)
+    go true true e = ap (λ (y : ℕ). pick (within y g) true false) (eqb-true x 0 e) ∙ ap (λ (w : Bool). pick w true false) (none-within g)
+    go true false e = ap (λ (y : ℕ). pick (within y g) true false) (eqb-true x 0 e) ∙ ap (λ (w : Bool). pick w true false) (none-within g)
+    go false true e = refl
+    go false false e = refl
 
 cells-walked : (g n : ℕ) (ks cs : List ℕ) → each (cellFits g ks cs) n 0 ≡ walk (fits g ks) n cs 0
 unfolding cellFits
-cells-walked g n ks cs = each-is-walk (fits g ks) (cellFits g ks cs) n cs 0 (λ i. ap (λ k. fits g ks (getD cs k 0) (0 + i)) (zero-add i))
+cells-walked g n ks cs =
+    each-is-walk (fits g ks) (cellFits g ks cs) n cs 0
+    (λ i. byte-fits g (inside ks ((0 + i) / names) ((0 + i) % names)) (getD cs (0 + i) 0) ∙ ap (λ k. fits g ks (getD cs k 0) (0 + i)) (zero-add i))
+
+-- ---- the matrix: what the definition says hangs on the cells only by whether they fit
+-- no cell set: they fit
+no-cells : (g n : ℕ) (ks : List ℕ) → each (cellFits g ks []) n 0 ≡ true
+unfolding cellFits
+no-cells g n ks = each-all (cellFits g ks []) n 0 (λ i _ _. byte-fits g (inside ks (i / names) (i % names)) 0)
+
+-- a first cell with right g: they do not
+cell-over : (g n : ℕ) (ks : List ℕ) → each (cellFits g ks (2 ^ g ∷ [])) (suc n) 0 ≡ false
+unfolding each cellFits
+cell-over g n ks = ap (λ (b : Bool). pick (pick b (pick (inside ks 0 0) true (eqb (2 ^ g) 0)) false) (each (cellFits g ks (2 ^ g ∷ [])) n 1) false) (le-ltb (2 ^ g) (2 ^ g) (omega arith))
 
 abbrev pub walkedMatrix : ℕ → List ℕ → List ℕ → ℕ
-walkedMatrix g ks cs = pick (each (kindFits ks) names 0) (pick (walk (fits g ks) (names * names) cs 0) 0 7) 6
+walkedMatrix g ks cs = pick (walk (fits g ks) (names * names) cs 0) (matrixRefusal g ks []) (matrixRefusal g ks (2 ^ g ∷ []))
 
+matrix-walked : (g : ℕ) (ks cs : List ℕ) → walkedMatrix g ks cs ≡ matrixRefusal g ks cs
+unfolding matrixRefusal
+matrix-walked g ks cs = go (walk (fits g ks) (names * names) cs 0) (cells-walked g (names * names) ks cs)
+  where
+    go : (b : Bool) → each (cellFits g ks cs) (names * names) 0 ≡ b → pick b (matrixRefusal g ks []) (matrixRefusal g ks (2 ^ g ∷ [])) ≡ matrixRefusal g ks cs
+    go true e = rw (e, no-cells g (names * names) ks)
+    go false e = rw (e, cell-over g 1023 ks)
+
+-- ---- the file
 abbrev pub walkedRefusal : List ℕ → ℕ
 walkedRefusal f =
     orElse (headerRefusal f)
@@ -59,10 +97,6 @@ walkedRefusal f =
     (orElse (sizesRefusal f)
     (orElse (walkedMatrix (rightsOf f) (kindsIn f) (cellsIn f))
     (commandsRefusal f (commandsOf f) 0))))
-
-matrix-walked : (g : ℕ) (ks cs : List ℕ) → walkedMatrix g ks cs ≡ matrixRefusal g ks cs
-unfolding matrixRefusal
-matrix-walked g ks cs = ap (λ b. pick (each (kindFits ks) names 0) (pick b 0 7) 6) (sym (cells-walked g (names * names) ks cs))
 
 pub refusal-walked : (f : List ℕ) → walkedRefusal f ≡ refusal f
 unfolding refusal

@@ -1,23 +1,28 @@
--- A file's bytes from what it says (document 01, "The matrix and the house file").
+-- A file's bytes from what it says (document 01, "The matrix and the house file"). Document 01's numbers stand here once more, so that no change of the
+-- definitions changes a case.
 use Prim.Native.Nat.{ℕ, zero, suc, _+_, _-_, _*_, _/_, _%_}
 use Prim.Native.Char.{code}
 use Prim.Native.String.{String, len, charAt}
 use mathlib.Core.List.{List, [], _∷_, _++_}
-use lib.ListN.{length, set, replicate}
+use lib.ListN.{length, getD, set, replicate}
 use Rattle.cases.specs.Cases.{listed}
-use Rattle.protection.specs.Limits.{names, unused}
 use Rattle.protection.specs.Command.{Call}
 
 -- "16-bit values low byte first"
 abbrev pub wordBytes : ℕ → List ℕ → List ℕ
 wordBytes n rest = (n % 256) ∷ (n / 256) ∷ rest
 
+-- a pair, "an offset .. and a length", before what follows it
+abbrev pub pair : ℕ → ℕ → List ℕ → List ℕ
+pair at size rest = wordBytes at (wordBytes size rest)
+
 -- the pairs of sections that stand one behind the other from a place on
 abbrev pub pairsFrom : ℕ → List (List ℕ) → List ℕ
 pairsFrom at [] = []
-pairsFrom at (s ∷ ss) = wordBytes at (wordBytes (length s) (pairsFrom (at + length s) ss))
+pairsFrom at (s ∷ ss) = pair at (length s) (pairsFrom (at + length s) ss)
 
-abbrev pub joined : List (List ℕ) → List ℕ
+-- lists one behind the other
+abbrev pub joined : {A : Type 0} → List (List A) → List A
 joined [] = []
 joined (s ∷ ss) = s ++ joined ss
 
@@ -51,52 +56,74 @@ objectsBelow (suc n) = anObject n ∷ objectsBelow n
 abbrev pub cellWith : ℕ → ℕ → ℕ → CellAt
 cellWith s o byte = record { subject = s; object = o; rights = byte }
 
--- 32 kinds and 1,024 cells, 0 where nothing else is said
+-- 32 kinds and 1,024 cells, 0 where nothing else is said; of two that are said of one name or cell the first stands
 abbrev pub kindBytes : List KindAt → List ℕ
-kindBytes [] = replicate names 0
+kindBytes [] = replicate 32 0
 kindBytes (k ∷ ks) = set (kindBytes ks) (k .name) (k .kind)
 
 abbrev pub cellBytes : List CellAt → List ℕ
-cellBytes [] = replicate (names * names) 0
-cellBytes (c ∷ cs) = set (cellBytes cs) (names * c .subject + c .object) (c .rights)
+cellBytes [] = replicate 1024 0
+cellBytes (c ∷ cs) = set (cellBytes cs) (32 * c .subject + c .object) (c .rights)
 
 -- "conditions of 3 bytes (right, subject blank, object blank)"
 abbrev pub ifIn : ℕ → ℕ → ℕ → List ℕ
 ifIn q s o = q ∷ s ∷ o ∷ []
 
--- "steps of 4 bytes (kind, right, first blank, second blank)"; "Kinds: 1 enter, 2 delete, 3 create subject, .. 5 destroy subject", the last two with "right 0
--- and second blank 0"
+-- "steps of 4 bytes (kind, right, first blank, second blank)"
+abbrev pub step : ℕ → ℕ → ℕ → ℕ → List ℕ
+step kind q first second = kind ∷ q ∷ first ∷ second ∷ []
+
+-- "Kinds: 1 enter, 2 delete, 3 create subject, 4 create object, 5 destroy subject, 6 destroy object. Kinds 3 to 6 have right 0 and second blank 0"
 abbrev pub enter : ℕ → ℕ → ℕ → List ℕ
-enter q s o = 1 ∷ q ∷ s ∷ o ∷ []
+enter q s o = step 1 q s o
 
 abbrev pub delete : ℕ → ℕ → ℕ → List ℕ
-delete q s o = 2 ∷ q ∷ s ∷ o ∷ []
+delete q s o = step 2 q s o
 
 abbrev pub createSubject : ℕ → List ℕ
-createSubject x = 3 ∷ 0 ∷ x ∷ 0 ∷ []
+createSubject x = step 3 0 x 0
+
+abbrev pub createObject : ℕ → List ℕ
+createObject x = step 4 0 x 0
 
 abbrev pub destroySubject : ℕ → List ℕ
-destroySubject x = 5 ∷ 0 ∷ x ∷ 0 ∷ []
+destroySubject x = step 5 0 x 0
+
+abbrev pub destroyObject : ℕ → List ℕ
+destroyObject x = step 6 0 x 0
 
 -- a rule's section: blanks, the conditions' bytes, the steps' bytes
 abbrev pub ruleBytes : ℕ → List (List ℕ) → List (List ℕ) → List ℕ
 ruleBytes k conditions steps = k ∷ length conditions ∷ length steps ∷ (joined conditions ++ joined steps)
 
+-- a rule of one step and no condition: (a), (a,b)
+abbrev pub onName : List ℕ → List ℕ
+onName o = ruleBytes 1 [] (o ∷ [])
+
+abbrev pub onCell : List ℕ → List ℕ
+onCell o = ruleBytes 2 [] (o ∷ [])
+
 -- the whole file: rights, kinds, cells, rules
 abbrev pub fileOf : ℕ → List KindAt → List CellAt → List (List ℕ) → List ℕ
 fileOf g ks cs rules = fileWith g (kindBytes ks ∷ cellBytes cs ∷ rules)
 
--- a rule run with one and with two blanks
-abbrev pub callOne : ℕ → ℕ → Call
-callOne i a = record { command = i; a0 = a; a1 = unused; a2 = unused; a3 = unused }
-
-abbrev pub callTwo : ℕ → ℕ → ℕ → Call
-callTwo i a b = record { command = i; a0 = a; a1 = b; a2 = unused; a3 = unused }
-
 -- ---- what a call is given, and what it leaves
--- the bytes of a lent buffer from place j on to place n, each of them the number of its place
+-- a rule run: the rule's number and the actuals; "positions from k on hold 255"
+abbrev pub call : ℕ → List ℕ → Call
+call i xs = record { command = i; a0 = getD xs 0 255; a1 = getD xs 1 255; a2 = getD xs 2 255; a3 = getD xs 3 255 }
+
+-- "A trace is 5 bytes a step: rule number and four actuals."
+abbrev pub trace : List Call → List ℕ
+trace [] = []
+trace (x ∷ xs) = x .command ∷ x .a0 ∷ x .a1 ∷ x .a2 ∷ x .a3 ∷ trace xs
+
+-- the bytes of a lent buffer from place j on to place n, each of them its place's number modulo 256
 abbrev pub buffer : ℕ → ℕ → List ℕ
-buffer j n = listed (λ i. i) (n - j) j
+buffer j n = listed (λ i. i % 256) (n - j) j
+
+-- that buffer of n bytes with the steps at its front: "They fill the front of the buffer, under safe too; the rest keeps its bytes."
+abbrev pub holding : List Call → ℕ → List ℕ
+holding steps n = trace steps ++ buffer (5 * length steps) n
 
 -- a printed text's bytes, in ASCII
 abbrev pub text : String → List ℕ

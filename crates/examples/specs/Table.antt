@@ -1,173 +1,232 @@
--- Document 01's cases as a table ("Proof slips"; "P1 to P10, proved together as a table with a claim over all its rows").
+-- The table of cases, and what is claimed of it: "P1 to P10, proved together as a table with a claim over all its rows", and cases for what document 01
+-- says besides, so that a sentence read otherwise, in the definitions and in the code together, fails a row. Most names begin with what the row answers.
 use Prim.Native.Nat.{ℕ}
+use Prim.Native.String.{String}
 use mathlib.Core.Path.{_≡_}
-use mathlib.Core.List.{List, [], _∷_}
-use lib.ListN.{length}
-use Rattle.protection.specs.Command.{Call}
-use Rattle.update.specs.Files.{runCode, runFile}
-use Rattle.safety.specs.Judgement.{fileJudgement, fileBuffer}
+use mathlib.Core.Bool.{Bool, false, _||_}
+use mathlib.Core.List.{List, [], _∷_, _++_}
+use lib.Dec.{eqb}
+use Rattle.cases.specs.Cases.{pick}
+use Rattle.trace.specs.declared.Replay.{Replay}
+use Rattle.trace.specs.declared.Replay.the-variants.{NoLeak, Leak, Refused as RefusedAt}
 use Rattle.safety.specs.declared.Judgement.{Judgement}
 use Rattle.safety.specs.declared.Judgement.the-variants.{Refused, Safe, Unsafe}
-use Rattle.listing.specs.Listing.{listing}
-use Rattle.examples.specs.Build.{anObject, aSubject, objectsBelow, cellWith, ifIn, enter, delete, createSubject, destroySubject, ruleBytes, fileOf, callOne, callTwo, buffer, text}
+use Rattle.examples.specs.Build.{joined}
+use Rattle.examples.specs.Cases.{Case, checks, runs, replays, judges, prints, Row, namesOf, AllHold}
+use Rattle.examples.specs.Slips.{slipCases}
+use Rattle.examples.specs.Files.{headerCases, matrixCases, ruleCases}
+use Rattle.examples.specs.Runs.{refusedCases, doneCases}
+use Rattle.examples.specs.Replays.{replayCases}
+use Rattle.examples.specs.Judgements.{callerCases, roundCases, createCases, closingCases}
 
--- ---- rows, and what they claim
-pub data Case : Type 0 where
-  -- the judge is lent the file, the right and the buffer; its answer, and the buffer after it
-  judges : List ℕ → ℕ → List ℕ → Judgement → List ℕ → Case
-  -- the desk program reads the right and the file, and prints the text
-  prints : ℕ → List ℕ → List ℕ → Case
-  -- the rule run on the lent file; its answer, and the file after it
-  runs : List ℕ → Call → ℕ → List ℕ → Case
+abbrev pub parts : List (List Row)
+parts = slipCases ∷ headerCases ∷ matrixCases ∷ ruleCases ∷ refusedCases ∷ doneCases ∷ replayCases ∷ callerCases ∷ roundCases ∷ createCases ∷ closingCases ∷ []
 
--- the two equations of the judge's contract, `Judged`; its other parts are theorems for every input
-pub record FileJudged (f : List ℕ) (r : ℕ) (b : List ℕ) (answer : Judgement) (b' : List ℕ) : Type 0 where
-  pub answer-is : answer ≡ fileJudgement f r (length b)
-  pub buffer-is : b' ≡ fileBuffer f r b
+abbrev pub table : List Row
+table = joined parts
 
--- and those of a rule run's, `FileRun`, without demand 2
-pub record FileRan (f : List ℕ) (x : Call) (r : ℕ) (f' : List ℕ) : Type 0 where
-  pub code : r ≡ runCode f x
-  pub file : f' ≡ runFile f x
+-- ---- what it must have
+-- the names of its rows
+abbrev pub required : List String
+required =
+    "P1 listing" ∷
+    "P1" ∷
+    "P1 one byte less" ∷
+    "P2" ∷
+    "P2 listing" ∷
+    "P3" ∷
+    "P3 listing" ∷
+    "P4" ∷
+    "P4 listing" ∷
+    "P5" ∷
+    "P5 listing" ∷
+    "P6" ∷
+    "P6 listing" ∷
+    "P7" ∷
+    "P7 listing" ∷
+    "P8" ∷
+    "P8 listing" ∷
+    "P9" ∷
+    "P10" ∷
+    "1: no byte" ∷
+    "1: one byte, before 2" ∷
+    "2: two bytes, g 0, before 3" ∷
+    "1: 4,097 bytes, before 2" ∷
+    "2: 4,096 bytes" ∷
+    "2: g 9, before 3" ∷
+    "3: g 1, one pair, before 1" ∷
+    "3: g 8, 35 pairs, before 1" ∷
+    "1: 2 pairs in 9 bytes, before 4" ∷
+    "1: 34 pairs in 137 bytes, before 4" ∷
+    "4: 2 pairs in 10 bytes, the first offset 0, before 5" ∷
+    "4: 34 pairs in 138 bytes" ∷
+    "4: a byte between two sections, before 5" ∷
+    "4: a byte of two sections, before 5" ∷
+    "4: a byte behind the last section, before 5" ∷
+    "4: the last section cut, before 5" ∷
+    "4: sums are not taken modulo 65,536, before 5" ∷
+    "5: kinds of 31 bytes, before 6" ∷
+    "5: kinds of 33 bytes, before 6" ∷
+    "5: cells of 1,023 bytes, before 6" ∷
+    "5: cells of 1,025 bytes, before 6" ∷
+    "6: the last kind 3, before 7" ∷
+    "7: the last kind 2" ∷
+    "7: right g in a cell, before a rule's 5" ∷
+    "5: rights below g in a cell" ∷
+    "7: an object's row" ∷
+    "7: an absent name's row" ∷
+    "7: an absent name's column" ∷
+    "5: an object's column" ∷
+    "7: the last cell" ∷
+    "accepted: g 8, all rights in a cell" ∷
+    "5: a rule of 2 bytes, before 8" ∷
+    "8: no blanks, before 5" ∷
+    "8: 5 blanks, before 5" ∷
+    "8: 5 conditions, before 5" ∷
+    "8: no steps, before 5" ∷
+    "8: 7 steps, before 5" ∷
+    "5: k 1, c 0, m 1" ∷
+    "5: k 4, c 4, m 6" ∷
+    "5: a rule one byte short, before 9" ∷
+    "5: a rule one byte long, before 9" ∷
+    "5: rule 0, before rule 1's 8" ∷
+    "9: a condition's right g, before rule 1's 5" ∷
+    "9: a condition's subject blank k" ∷
+    "9: a condition's object blank k" ∷
+    "5: a condition's right g - 1 and blanks k - 1" ∷
+    "9: a step's right g" ∷
+    "9: a deleted right g" ∷
+    "9: a step's first blank k" ∷
+    "9: a step's second blank k" ∷
+    "5: a step's right g - 1 and blanks k - 1" ∷
+    "9: a step of kind 0" ∷
+    "9: a step of kind 7" ∷
+    "9: a right in kind 3" ∷
+    "9: a right in kind 6" ∷
+    "9: a second blank in kind 3" ∷
+    "9: a second blank in kind 6" ∷
+    "9: a created blank k" ∷
+    "accepted: the largest rule" ∷
+    "accepted: 34 pairs" ∷
+    "5 before 11" ∷
+    "11: rule 1 of one, before 12" ∷
+    "12: 32 for an unnamed blank, before 14" ∷
+    "12: 32 for a named blank, before 13" ∷
+    "12: 255 in a used position, before 14" ∷
+    "12: 254 in an unused position, before 13" ∷
+    "12: a name in the last position, before 13" ∷
+    "13: 31 for an unnamed blank, before 14" ∷
+    "13: the name that the run creates" ∷
+    "13: the 0 behind a created blank" ∷
+    "14: an unnamed blank with an existing name" ∷
+    "14: the cell lacks the right, before 15" ∷
+    "14: the subject is an object, before 15" ∷
+    "14: the object is absent, before 15" ∷
+    "14: the last of two conditions" ∷
+    "14: the first step would make it hold" ∷
+    "15: behind a step that is done" ∷
+    "15: enter, the first an object" ∷
+    "15: enter, the second absent" ∷
+    "15: delete, the first an object" ∷
+    "15: delete, the second absent" ∷
+    "15: create subject, an object" ∷
+    "15: create object, an object" ∷
+    "15: create object, a subject" ∷
+    "15: destroy subject, an object" ∷
+    "15: destroy subject, absent" ∷
+    "15: destroy object, a subject" ∷
+    "15: destroy object, absent" ∷
+    "done: enter" ∷
+    "done: enter a right already there" ∷
+    "done: delete" ∷
+    "done: delete a right that is not there" ∷
+    "done: two blanks with one name" ∷
+    "done: create subject 31" ∷
+    "done: create object" ∷
+    "done: destroy subject" ∷
+    "done: destroy object" ∷
+    "done: destroyed, created again, entered" ∷
+    "done: the conditions held, four blanks, one unnamed" ∷
+    "replay: 5 before 21" ∷
+    "replay: 21, right g, before 31" ∷
+    "replay: 31, 6 bytes, before a leak" ∷
+    "replay: 31, 4 bytes, before 11" ∷
+    "replay: no step" ∷
+    "replay: no 23" ∷
+    "leak: an enter" ∷
+    "leak: a delete and an enter in one rule" ∷
+    "leak: an enter and a delete in one rule" ∷
+    "no leak: the right is there already" ∷
+    "no leak: another right" ∷
+    "no leak: an enter in a rule refused later" ∷
+    "leak at step 1, before a refusal" ∷
+    "refusal at step 1, before a leak" ∷
+    "leak at step 0, before another" ∷
+    "replay: 12 at step 1" ∷
+    "replay: 14 at step 1" ∷
+    "replay: 15 at step 1" ∷
+    "leak at step 2, by what the steps before left" ∷
+    "judge: 5 before 21" ∷
+    "judge: 21, right g, before 22" ∷
+    "judge: 22, right g - 1, before 23" ∷
+    "judge: 23, 31 names, before 24" ∷
+    "judge: 24, 339 bytes" ∷
+    "judge: 340 bytes" ∷
+    "desk: empty input" ∷
+    "desk: the right alone" ∷
+    "judge: the first blank slowest" ∷
+    "judge: name 31" ∷
+    "desk: name 31" ∷
+    "judge: rule 0 before rule 1" ∷
+    "judge: rule 0 once more" ∷
+    "judge: nothing behind the leak" ∷
+    "judge: a step seen by the next actuals" ∷
+    "judge: safe, one step" ∷
+    "desk: safe, one step" ∷
+    "judge: create object, the lowest absent name" ∷
+    "judge: one create of each kind, in one round" ∷
+    "judge: a created object's column" ∷
+    "judge: a created blank in a condition" ∷
+    "judge: deletes and destroys are passed by" ∷
+    "judge: start cells row by row, the first with both" ∷
+    "judge: the right is gone from one cell alone" ∷
+    "judge: the first of the allowed actuals" ∷
+    "judge: the closing search behind the rounds" ∷
+    []
 
-abbrev pub Holds : Case → Type 0
-Holds (judges f r b answer b') = FileJudged f r b answer b'
-Holds (prints r f out) = out ≡ listing (r ∷ f)
-Holds (runs f x n f') = FileRan f x n f'
+-- every refusal of document 01 is the answer of some row
+abbrev pub refusals : List ℕ
+refusals = 1 ∷ 2 ∷ 3 ∷ 4 ∷ 5 ∷ 6 ∷ 7 ∷ 8 ∷ 9 ∷ 11 ∷ 12 ∷ 13 ∷ 14 ∷ 15 ∷ 21 ∷ 22 ∷ 23 ∷ 24 ∷ 31 ∷ []
 
-abbrev pub AllHold : List Case → Type 0
-AllHold [] = Unit {0}
-AllHold (c ∷ cs) = Holds c × AllHold cs
+abbrev pub replayRefused : Replay → ℕ
+replayRefused NoLeak = 0
+replayRefused (Leak i) = 0
+replayRefused (RefusedAt n i) = n
 
--- ---- P1
--- "g 2; 0, 1 subjects, 2 object; right 0 in (0,2). Rule 0 (a,b,c): if 0 in (a,c) enter 1 into (b,c)."
-abbrev pub file1 : List ℕ
-file1 = fileOf 2 (aSubject 0 ∷ aSubject 1 ∷ anObject 2 ∷ []) (cellWith 0 2 1 ∷ []) (ruleBytes 3 (ifIn 0 0 2 ∷ []) (enter 1 1 2 ∷ []) ∷ [])
+abbrev pub judgementRefused : Judgement → ℕ
+judgementRefused (Refused n) = n
+judgementRefused (Safe n) = 0
+judgementRefused (Unsafe n) = 0
 
--- "Right 1. Whole listing:" `UNSAFE 1`, `0 0 0 2`
-abbrev pub P1-listing : Case
-P1-listing = prints 1 file1 (text "UNSAFE 1\n0 0 0 2\n")
+-- the refusal that a row answers; 0 for none
+abbrev pub refusedBy : Case → ℕ
+refusedBy (checks f n) = n
+refusedBy (runs f x n f') = n
+refusedBy (replays f t r answer) = replayRefused answer
+refusedBy (judges f r b answer b') = judgementRefused answer
+refusedBy (prints input out) = 0
 
--- "Buffer at least 170 bytes;" the step's five bytes stand in front, and "the rest keeps its bytes"
-abbrev pub P1 : Case
-P1 = judges file1 1 (buffer 0 170) (Unsafe 1) (0 ∷ 0 ∷ 0 ∷ 2 ∷ 255 ∷ buffer 5 170)
+abbrev pub answered : ℕ → List Row → Bool
+answered n [] = false
+answered n (w ∷ ws) = eqb (refusedBy (w .case)) n || answered n ws
 
--- "169 is refused 24." "A refusal .. changes no lent byte."
-abbrev pub P1-short : Case
-P1-short = judges file1 1 (buffer 0 169) (Refused 24) (buffer 0 169)
+-- those of the numbers that no row answers
+abbrev pub unanswered : List ℕ → List Row → List ℕ
+unanswered [] ws = []
+unanswered (n ∷ ns) ws = pick (answered n ws) [] (n ∷ []) ++ unanswered ns ws
 
--- ---- P2 and P3
--- "g 2; subject 0, cell (0,0) holds 0 and 1. Rule 0 (a,b): delete 0 from (a,b). Rule 1 (a,b): if 1 in (a,b) enter 0 there."; q is the right of that condition
-abbrev pub fileWithCondition : ℕ → List ℕ
-fileWithCondition q = fileOf 2 (aSubject 0 ∷ []) (cellWith 0 0 3 ∷ []) (ruleBytes 2 [] (delete 0 0 1 ∷ []) ∷ ruleBytes 2 (ifIn q 0 1 ∷ []) (enter 0 0 1 ∷ []) ∷ [])
-
-abbrev pub file2 : List ℕ
-file2 = fileWithCondition 1
-
--- "Right 0: UNSAFE 2, steps `0 0 0`, `1 0 0`."
-abbrev pub P2 : Case
-P2 = judges file2 0 (buffer 0 80) (Unsafe 2) (0 ∷ 0 ∷ 0 ∷ 255 ∷ 255 ∷ 1 ∷ 0 ∷ 0 ∷ 255 ∷ 255 ∷ buffer 10 80)
-
-abbrev pub P2-listing : Case
-P2-listing = prints 0 file2 (text "UNSAFE 2\n0 0 0\n1 0 0\n")
-
--- "As P2 with rule 1's condition on right 0: SAFE 0."
-abbrev pub file3 : List ℕ
-file3 = fileWithCondition 0
-
-abbrev pub P3 : Case
-P3 = judges file3 0 (buffer 0 80) (Safe 0) (buffer 0 80)
-
-abbrev pub P3-listing : Case
-P3-listing = prints 0 file3 (text "SAFE 0\n")
-
--- ---- P4 and P5
--- "g 1, no names. Rule 0 (a): create subject a. Rule 1 (a,b): enter 0 into (a,b)."; k is the blanks of rule 0
-abbrev pub fileWithBlanks : ℕ → List ℕ
-fileWithBlanks k = fileOf 1 [] [] (ruleBytes k [] (createSubject 0 ∷ []) ∷ ruleBytes 2 [] (enter 0 0 1 ∷ []) ∷ [])
-
-abbrev pub file4 : List ℕ
-file4 = fileWithBlanks 1
-
--- "Right 0: UNSAFE 2, `0 0`, `1 0 0`."
-abbrev pub P4 : Case
-P4 = judges file4 0 (buffer 0 30) (Unsafe 2) (0 ∷ 0 ∷ 255 ∷ 255 ∷ 255 ∷ 1 ∷ 0 ∷ 0 ∷ 255 ∷ 255 ∷ buffer 10 30)
-
-abbrev pub P4-listing : Case
-P4-listing = prints 0 file4 (text "UNSAFE 2\n0 0\n1 0 0\n")
-
--- "As P4, rule 0 with a second, unnamed blank: SAFE 0."
-abbrev pub file5 : List ℕ
-file5 = fileWithBlanks 2
-
-abbrev pub P5 : Case
-P5 = judges file5 0 (buffer 0 30) (Safe 0) (buffer 0 30)
-
-abbrev pub P5-listing : Case
-P5-listing = prints 0 file5 (text "SAFE 0\n")
-
--- ---- P6 to P8
--- "g 1, no names, no rules, right 0: SAFE 0."
-abbrev pub file6 : List ℕ
-file6 = fileOf 1 [] [] []
-
-abbrev pub P6 : Case
-P6 = judges file6 0 (buffer 0 30) (Safe 0) (buffer 0 30)
-
-abbrev pub P6-listing : Case
-P6-listing = prints 0 file6 (text "SAFE 0\n")
-
--- "g 1, names 0 to 29 objects, no rules, right 0: SAFE 0"
-abbrev pub file7 : List ℕ
-file7 = fileOf 1 (objectsBelow 30) [] []
-
-abbrev pub P7 : Case
-P7 = judges file7 0 (buffer 0 180) (Safe 0) (buffer 0 180)
-
-abbrev pub P7-listing : Case
-P7-listing = prints 0 file7 (text "SAFE 0\n")
-
--- "name 30 an object too: refused 23."
-abbrev pub file8 : List ℕ
-file8 = fileOf 1 (objectsBelow 31) [] []
-
-abbrev pub P8 : Case
-P8 = judges file8 0 (buffer 0 180) (Refused 23) (buffer 0 180)
-
-abbrev pub P8-listing : Case
-P8-listing = prints 0 file8 (text "REFUSED 23\n")
-
--- ---- P9 and P10
--- "g 1, subject 0, cells empty."
-abbrev pub oneSubject : List (List ℕ) → List ℕ
-oneSubject rules = fileOf 1 (aSubject 0 ∷ []) [] rules
-
--- "Rule (a,b): enter 0 into (a,b), destroy subject a, enter 0 into (b,b)"
-abbrev pub file9 : List ℕ
-file9 = oneSubject (ruleBytes 2 [] (enter 0 0 1 ∷ destroySubject 0 ∷ enter 0 1 1 ∷ []) ∷ [])
-
--- ".. run with a = b = 0: 15, no byte changed."
-abbrev pub P9 : Case
-P9 = runs file9 (callTwo 0 0 0) 15 file9
-
--- "The same matrix, rule (a): create subject a"
-abbrev pub file10 : List ℕ
-file10 = oneSubject (ruleBytes 1 [] (createSubject 0 ∷ []) ∷ [])
-
--- ".. run with a = 0: 15."
-abbrev pub P10 : Case
-P10 = runs file10 (callOne 0 0) 15 file10
-
--- ---- the table
-abbrev pub table : List Case
-table =
-    P1-listing ∷ P1 ∷ P1-short ∷
-    P2 ∷ P2-listing ∷
-    P3 ∷ P3-listing ∷
-    P4 ∷ P4-listing ∷
-    P5 ∷ P5-listing ∷
-    P6 ∷ P6-listing ∷
-    P7 ∷ P7-listing ∷
-    P8 ∷ P8-listing ∷
-    P9 ∷
-    P10 ∷ []
+-- ---- the claim
+pub record AllCases (rows : List Row) : Type 0 where
+  pub named : namesOf rows ≡ required
+  pub every-refusal : unanswered refusals rows ≡ []
+  pub hold : AllHold rows

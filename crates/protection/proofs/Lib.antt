@@ -1,4 +1,5 @@
 pub mod Names
+mod Readings
 pub mod Model
 pub mod Widening
 pub mod Calls

@@ -1,0 +1,20 @@
+-- What the cases are computed by: whoever unfolds `computed` unfolds all that its line names. Assumes nothing.
+use Rattle.cases.specs.Cases.{turns, each}
+use Rattle.rights.specs.Rights.{number}
+use Rattle.protection.specs.Size.{count}
+use Rattle.protection.specs.Judge.{lowestAbsent, rounds, judge}
+use Rattle.matrix.specs.Bytes.{kindsOf, cellsOf}
+use Rattle.matrix.specs.Refusals.{cellFits, matrixRefusal}
+use Rattle.layout.specs.File.{startOf}
+use Rattle.layout.specs.Refusals.{headerRefusal, pairsRefusal, sizesRefusal}
+use Rattle.commands.specs.Refusals.{conditionFits, operationFits, commandRefusal}
+use Rattle.commands.specs.Contents.{commandOf}
+use Rattle.policy.specs.Refusals.{commandsRefusal}
+use Rattle.policy.specs.Contents.{commandTable, policyOf, written}
+use Rattle.trace.specs.Replays.{replayFrom}
+use Rattle.safety.specs.Judgement.{callerRefusal}
+use Rattle.listing.specs.Listing.{digits}
+
+unfoldable pub computed : Unit {0}
+unfolding turns each number lowestAbsent rounds count judge kindsOf cellsOf cellFits matrixRefusal startOf headerRefusal pairsRefusal sizesRefusal conditionFits operationFits commandRefusal commandOf commandsRefusal commandTable policyOf written replayFrom callerRefusal digits
+computed = tt

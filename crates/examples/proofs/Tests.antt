@@ -1,0 +1,183 @@
+-- A row's claim as a test that computes, with a number z in place of its file's refusal; and the rows that fail, by their names. Assumes nothing.
+use Prim.Native.Nat.{ℕ, _%_}
+use Prim.Native.String.{String}
+use mathlib.Core.Path.{_≡_, refl, ap, ap₂, subst, _∙_}
+use mathlib.Core.Bool.{Bool, true, false, _&&_}
+use mathlib.Core.List.{List, [], _∷_, _++_}
+use native.Mathlib.Omega.{arith}
+use lib.Dec.{T, eqb, leb, eqb→eq}
+use lib.ListN.{length}
+use Rattle.cases.specs.Cases.{pick}
+use Rattle.cases.proofs.Bools.{and-left, and-right}
+use Rattle.protection.specs.Command.{Call}
+use Rattle.layout.specs.File.{rightsOf}
+use Rattle.layout.specs.Refusals.{orElse}
+use Rattle.policy.specs.Refusals.{refusal}
+use Rattle.policy.specs.Contents.{policyOf, fileState, fileSystem}
+use Rattle.update.specs.Files.{fileOutcome, codeOf, rewritten, runCode, runFile}
+use Rattle.trace.specs.Traces.{calls, stepsIn}
+use Rattle.trace.specs.Replays.{replayFrom, fileReplay}
+use Rattle.trace.specs.declared.Replay.{Replay}
+use Rattle.trace.specs.declared.Replay.the-variants.{NoLeak, Leak, Refused as RefusedAt}
+use Rattle.safety.specs.Judgement.{callerRefusal, judgeRefusal, fileVerdict, judgementOf, fileJudgement, filled, fileBuffer}
+use Rattle.safety.specs.declared.Judgement.{Judgement}
+use Rattle.safety.specs.declared.Judgement.the-variants.{Refused, Safe, Unsafe}
+use Rattle.listing.specs.Listing.{printed, bufferBytes, listing}
+use Rattle.examples.specs.Build.{joined}
+use Rattle.examples.specs.Cases.{Case, checks, runs, replays, judges, prints, Holds, Row, AllHold}
+use Rattle.examples.proofs.Walk.{walkedRefusal, refusal-walked}
+
+-- ---- equality, as a test
+abbrev sameBytes : List ℕ → List ℕ → Bool
+sameBytes [] [] = true
+sameBytes [] (y ∷ l) = false
+sameBytes (x ∷ k) [] = false
+sameBytes (x ∷ k) (y ∷ l) = eqb x y && sameBytes k l
+
+same-bytes : (k l : List ℕ) → T (sameBytes k l) → k ≡ l
+same-bytes [] [] t = refl
+same-bytes [] (y ∷ l) t = absurd t
+same-bytes (x ∷ k) [] t = absurd t
+same-bytes (x ∷ k) (y ∷ l) t = ap₂ _∷_ (eqb→eq x y (and-left (eqb x y) (sameBytes k l) t)) (same-bytes k l (and-right (eqb x y) (sameBytes k l) t))
+
+abbrev sameReplay : Replay → Replay → Bool
+sameReplay NoLeak NoLeak = true
+sameReplay NoLeak (Leak j) = false
+sameReplay NoLeak (RefusedAt m j) = false
+sameReplay (Leak i) NoLeak = false
+sameReplay (Leak i) (Leak j) = eqb i j
+sameReplay (Leak i) (RefusedAt m j) = false
+sameReplay (RefusedAt n i) NoLeak = false
+sameReplay (RefusedAt n i) (Leak j) = false
+sameReplay (RefusedAt n i) (RefusedAt m j) = eqb n m && eqb i j
+
+same-replay : (a b : Replay) → T (sameReplay a b) → a ≡ b
+same-replay NoLeak NoLeak t = refl
+same-replay NoLeak (Leak j) t = absurd t
+same-replay NoLeak (RefusedAt m j) t = absurd t
+same-replay (Leak i) NoLeak t = absurd t
+same-replay (Leak i) (Leak j) t = ap Leak (eqb→eq i j t)
+same-replay (Leak i) (RefusedAt m j) t = absurd t
+same-replay (RefusedAt n i) NoLeak t = absurd t
+same-replay (RefusedAt n i) (Leak j) t = absurd t
+same-replay (RefusedAt n i) (RefusedAt m j) t = ap₂ RefusedAt (eqb→eq n m (and-left (eqb n m) (eqb i j) t)) (eqb→eq i j (and-right (eqb n m) (eqb i j) t))
+
+abbrev sameJudgement : Judgement → Judgement → Bool
+sameJudgement (Refused n) (Refused m) = eqb n m
+sameJudgement (Refused n) (Safe m) = false
+sameJudgement (Refused n) (Unsafe m) = false
+sameJudgement (Safe n) (Refused m) = false
+sameJudgement (Safe n) (Safe m) = eqb n m
+sameJudgement (Safe n) (Unsafe m) = false
+sameJudgement (Unsafe n) (Refused m) = false
+sameJudgement (Unsafe n) (Safe m) = false
+sameJudgement (Unsafe n) (Unsafe m) = eqb n m
+
+same-judgement : (a b : Judgement) → T (sameJudgement a b) → a ≡ b
+same-judgement (Refused n) (Refused m) t = ap Refused (eqb→eq n m t)
+same-judgement (Refused n) (Safe m) t = absurd t
+same-judgement (Refused n) (Unsafe m) t = absurd t
+same-judgement (Safe n) (Refused m) t = absurd t
+same-judgement (Safe n) (Safe m) t = ap Safe (eqb→eq n m t)
+same-judgement (Safe n) (Unsafe m) t = absurd t
+same-judgement (Unsafe n) (Refused m) t = absurd t
+same-judgement (Unsafe n) (Safe m) t = absurd t
+same-judgement (Unsafe n) (Unsafe m) t = ap Unsafe (eqb→eq n m t)
+
+-- ---- the calls, with a number z in place of the file's refusal
+abbrev codeAt : ℕ → List ℕ → Call → ℕ
+codeAt z f x = orElse z (codeOf (fileOutcome f x))
+
+abbrev fileAt : ℕ → List ℕ → Call → List ℕ
+fileAt z f x = pick (eqb z 0) (rewritten f (fileOutcome f x)) f
+
+abbrev replayAt : ℕ → List ℕ → List ℕ → ℕ → Replay
+replayAt z f t r =
+    pick (eqb z 0)
+    (pick (leb (rightsOf f) r) (RefusedAt 21 0)
+    (pick (eqb (length t % 5) 0) (replayFrom (fileSystem f) r (calls t (stepsIn t)) 0 (fileState f))
+    (RefusedAt 31 0)))
+    (RefusedAt z 0)
+
+abbrev judgeRefusalAt : ℕ → List ℕ → ℕ → ℕ → ℕ
+judgeRefusalAt z f r n = orElse z (callerRefusal (fileSystem f) (fileState f) r n)
+
+abbrev judgementAt : ℕ → List ℕ → ℕ → ℕ → Judgement
+judgementAt z f r n = pick (eqb (judgeRefusalAt z f r n) 0) (judgementOf (fileVerdict f r)) (Refused (judgeRefusalAt z f r n))
+
+abbrev bufferAt : ℕ → List ℕ → ℕ → List ℕ → List ℕ
+bufferAt z f r b = pick (eqb (judgeRefusalAt z f r (length b)) 0) (filled (fileVerdict f r .steps) b) b
+
+abbrev listingAt : ℕ → List ℕ → List ℕ
+listingAt z [] = listing []
+listingAt z (r ∷ f) = printed (policyOf f) (judgementAt z f r bufferBytes) (fileVerdict f r .steps)
+
+-- ---- a row
+abbrev behind : List ℕ → List ℕ
+behind [] = []
+behind (r ∷ f) = f
+
+abbrev fileIn : Case → List ℕ
+fileIn (checks f n) = f
+fileIn (runs f x n f') = f
+fileIn (replays f t r answer) = f
+fileIn (judges f r b answer b') = f
+fileIn (prints input out) = behind input
+
+abbrev testAt : ℕ → Case → Bool
+testAt z (checks f n) = eqb n z
+testAt z (runs f x n f') = eqb n (codeAt z f x) && sameBytes f' (fileAt z f x)
+testAt z (replays f t r answer) = sameReplay answer (replayAt z f t r)
+testAt z (judges f r b answer b') = sameJudgement answer (judgementAt z f r (length b)) && sameBytes b' (bufferAt z f r b)
+testAt z (prints input out) = sameBytes out (listingAt z input)
+
+printed-is : (input : List ℕ) → listingAt (refusal (behind input)) input ≡ listing input
+unfolding judgeRefusal fileJudgement
+printed-is [] = refl
+printed-is (r ∷ f) = refl
+
+holds : (c : Case) → T (testAt (refusal (fileIn c)) c) → Holds c
+unfolding runCode runFile fileReplay judgeRefusal fileJudgement fileBuffer
+holds (checks f n) t = eqb→eq n (refusal f) t
+holds (runs f x n f') t =
+    let a = eqb n (codeAt (refusal f) f x) in
+    let b = sameBytes f' (fileAt (refusal f) f x) in
+    record { answer-is = eqb→eq n (codeAt (refusal f) f x) (and-left a b t); file-is = same-bytes f' (fileAt (refusal f) f x) (and-right a b t) }
+holds (replays f t r answer) s = same-replay answer (replayAt (refusal f) f t r) s
+holds (judges f r b answer b') t =
+    let c = sameJudgement answer (judgementAt (refusal f) f r (length b)) in
+    let d = sameBytes b' (bufferAt (refusal f) f r b) in
+    record { answer-is = same-judgement answer (judgementAt (refusal f) f r (length b)) (and-left c d t); buffer-is = same-bytes b' (bufferAt (refusal f) f r b) (and-right c d t) }
+holds (prints input out) t = same-bytes out (listingAt (refusal (behind input)) input) t ∙ printed-is input
+
+-- ---- the rows that fail
+abbrev test : Case → Bool
+test c = testAt (walkedRefusal (fileIn c)) c
+
+tested : (c : Case) → T (test c) → Holds c
+tested c t = holds c (subst (λ (z : ℕ). T (testAt z c)) (refusal-walked (fileIn c)) t)
+
+abbrev pub failing : List Row → List String
+failing [] = []
+failing (w ∷ ws) = pick (test (w .case)) [] (w .name ∷ []) ++ failing ws
+
+none-failing : (ws : List Row) → failing ws ≡ [] → AllHold ws
+none-failing [] e = tt
+none-failing (w ∷ ws) e = go (test (w .case)) (tested (w .case)) (none-failing ws) e
+  where
+    go : (b : Bool) → (T b → Holds (w .case)) → (failing ws ≡ [] → AllHold ws) → pick b [] (w .name ∷ []) ++ failing ws ≡ [] → Holds (w .case) × AllHold ws
+    go true h hs e = (h tt, hs e)
+    go false h hs e = absurd (let z : _≡_ {A = ℕ} 0 1 = cc in omega arith)
+
+-- ---- the rows of several lists
+hold-both : (vs ws : List Row) → AllHold vs → AllHold ws → AllHold (vs ++ ws)
+hold-both [] ws h k = k
+hold-both (v ∷ vs) ws (h, hs) k = (h, hold-both vs ws hs k)
+
+abbrev pub NoneFail : List (List Row) → Type 0
+NoneFail [] = Unit {0}
+NoneFail (p ∷ ps) = (failing p ≡ []) × NoneFail ps
+
+pub none-fail : (ps : List (List Row)) → NoneFail ps → AllHold (joined ps)
+none-fail [] h = tt
+none-fail (p ∷ ps) (h, hs) = hold-both p (joined ps) (none-failing p h) (none-fail ps hs)

@@ -1,0 +1,118 @@
+-- Files and their refusals, 1 to 9 (document 01, "Refused, by whom"): both sides of each bound, and behind each fault a later one that must not win.
+-- "Order: 1 (2 and 4,096 bytes), 2, 3, 1 (pairs), 4, 5 for kinds and cells, 6, 7, then rule by rule 5 (under 3), 8, 5, 9."
+use Prim.Native.Nat.{ℕ}
+use mathlib.Core.List.{List, [], _∷_}
+use lib.ListN.{replicate}
+use Rattle.examples.specs.Build.{pair, fileWith, anObject, aSubject, CellAt, cellWith, ifIn, step, enter, delete, createSubject, createObject, destroySubject, destroyObject, ruleBytes, onName, onCell, fileOf}
+use Rattle.examples.specs.Cases.{checks, Row, row}
+
+-- the first bytes and the pairs alone: no section is there, or they are too short
+abbrev pub headerCases : List Row
+headerCases =
+    -- "1 fewer than 2 bytes, more than 4,096"
+    row "1: no byte" (checks [] 1) ∷
+    row "1: one byte, before 2" (checks (9 ∷ []) 1) ∷
+    row "2: two bytes, g 0, before 3" (checks (0 ∷ 0 ∷ []) 2) ∷
+    row "1: 4,097 bytes, before 2" (checks (replicate 4097 0) 1) ∷
+    row "2: 4,096 bytes" (checks (replicate 4096 0) 2) ∷
+    -- "2 g not 1 to 8"; "3 pairs not 2 to 34"
+    row "2: g 9, before 3" (checks (9 ∷ 35 ∷ []) 2) ∷
+    row "3: g 1, one pair, before 1" (checks (1 ∷ 1 ∷ []) 3) ∷
+    row "3: g 8, 35 pairs, before 1" (checks (8 ∷ 35 ∷ []) 3) ∷
+    -- "1 .. shorter than its pairs need": 2 + 4 × pairs bytes
+    row "1: 2 pairs in 9 bytes, before 4" (checks (1 ∷ 2 ∷ replicate 7 0) 1) ∷
+    row "1: 34 pairs in 137 bytes, before 4" (checks (8 ∷ 34 ∷ replicate 135 0) 1) ∷
+    -- "4 an offset or end not where it must be"; the sections' lengths, 5, are wrong too
+    row "4: 2 pairs in 10 bytes, the first offset 0, before 5" (checks (1 ∷ 2 ∷ replicate 8 0) 4) ∷
+    row "4: 34 pairs in 138 bytes" (checks (8 ∷ 34 ∷ replicate 136 0) 4) ∷
+    row "4: a byte between two sections, before 5" (checks (1 ∷ 2 ∷ pair 10 1 (pair 12 1 (3 ∷ 0 ∷ 0 ∷ []))) 4) ∷
+    row "4: a byte of two sections, before 5" (checks (1 ∷ 2 ∷ pair 10 2 (pair 11 2 (3 ∷ 0 ∷ 0 ∷ []))) 4) ∷
+    row "4: a byte behind the last section, before 5" (checks (1 ∷ 2 ∷ pair 10 1 (pair 11 1 (3 ∷ 0 ∷ 0 ∷ []))) 4) ∷
+    row "4: the last section cut, before 5" (checks (1 ∷ 2 ∷ pair 10 1 (pair 11 1 (3 ∷ []))) 4) ∷
+    row "4: sums are not taken modulo 65,536, before 5" (checks (1 ∷ 2 ∷ pair 10 65535 (pair 9 1 [])) 4) ∷
+    -- "5 a section's length wrong (kinds, cells, ..)"; a kind above 2, 6, is there too
+    row "5: kinds of 31 bytes, before 6" (checks (fileWith 1 (replicate 31 3 ∷ replicate 1024 0 ∷ [])) 5) ∷
+    row "5: kinds of 33 bytes, before 6" (checks (fileWith 1 (replicate 33 3 ∷ replicate 1024 0 ∷ [])) 5) ∷
+    row "5: cells of 1,023 bytes, before 6" (checks (fileWith 1 (replicate 32 3 ∷ replicate 1023 0 ∷ [])) 5) ∷
+    row "5: cells of 1,025 bytes, before 6" (checks (fileWith 1 (replicate 32 3 ∷ replicate 1025 0 ∷ [])) 5) ∷
+    []
+
+-- a rule's section of no bytes, which is 5
+abbrev pub noBytes : List ℕ
+noBytes = []
+
+-- g 2, subject 0, object 1, one cell set; its rule is 5
+abbrev pub oneCell : CellAt → List ℕ
+oneCell c = fileOf 2 (aSubject 0 ∷ anObject 1 ∷ []) (c ∷ []) (noBytes ∷ [])
+
+abbrev pub matrixCases : List Row
+matrixCases =
+    -- "6 a kind above 2"
+    row "6: the last kind 3, before 7" (checks (fileOf 1 (record { name = 31; kind = 3 } ∷ []) (cellWith 0 0 255 ∷ []) []) 6) ∷
+    row "7: the last kind 2" (checks (fileOf 1 (record { name = 31; kind = 2 } ∷ []) (cellWith 0 0 255 ∷ []) []) 7) ∷
+    -- "7 a cell with a right from g on, or not 0 where it must be 0": "A cell whose row is no subject or whose column is absent is 0."
+    row "7: right g in a cell, before a rule's 5" (checks (oneCell (cellWith 0 0 4)) 7) ∷
+    row "5: rights below g in a cell" (checks (oneCell (cellWith 0 0 3)) 5) ∷
+    row "7: an object's row" (checks (oneCell (cellWith 1 0 1)) 7) ∷
+    row "7: an absent name's row" (checks (oneCell (cellWith 2 0 1)) 7) ∷
+    row "7: an absent name's column" (checks (oneCell (cellWith 0 2 1)) 7) ∷
+    row "5: an object's column" (checks (oneCell (cellWith 0 1 1)) 5) ∷
+    row "7: the last cell" (checks (oneCell (cellWith 31 31 1)) 7) ∷
+    row "accepted: g 8, all rights in a cell" (checks (fileOf 8 (aSubject 0 ∷ []) (cellWith 0 0 255 ∷ []) []) 0) ∷
+    []
+
+-- g 2, no names, and these rules
+abbrev pub withRules : List (List ℕ) → List ℕ
+withRules rules = fileOf 2 [] [] rules
+
+-- a rule of 2 blanks with one condition, and with one step, before a rule that is 5
+abbrev pub condition : List ℕ → List ℕ
+condition c = withRules (ruleBytes 2 (c ∷ []) (enter 0 0 0 ∷ []) ∷ noBytes ∷ [])
+
+abbrev pub operation : List ℕ → List ℕ
+operation o = withRules (onCell o ∷ noBytes ∷ [])
+
+abbrev pub ruleCases : List Row
+ruleCases =
+    -- "rule by rule 5 (under 3), 8, 5, 9"
+    row "5: a rule of 2 bytes, before 8" (checks (withRules ((5 ∷ 5 ∷ []) ∷ [])) 5) ∷
+    -- "8 k, c or m out of range": "blanks k, 1 to 4", "conditions c, 0 to 4", "steps m, 1 to 6"; the length, 5, is wrong too
+    row "8: no blanks, before 5" (checks (withRules ((0 ∷ 0 ∷ 1 ∷ []) ∷ [])) 8) ∷
+    row "8: 5 blanks, before 5" (checks (withRules ((5 ∷ 0 ∷ 1 ∷ []) ∷ [])) 8) ∷
+    row "8: 5 conditions, before 5" (checks (withRules ((1 ∷ 5 ∷ 1 ∷ []) ∷ [])) 8) ∷
+    row "8: no steps, before 5" (checks (withRules ((1 ∷ 0 ∷ 0 ∷ 0 ∷ []) ∷ [])) 8) ∷
+    row "8: 7 steps, before 5" (checks (withRules ((1 ∷ 0 ∷ 7 ∷ []) ∷ [])) 8) ∷
+    row "5: k 1, c 0, m 1" (checks (withRules ((1 ∷ 0 ∷ 1 ∷ []) ∷ [])) 5) ∷
+    row "5: k 4, c 4, m 6" (checks (withRules ((4 ∷ 4 ∷ 6 ∷ []) ∷ [])) 5) ∷
+    -- "not 3 + 3c + 4m"; the step's kind, 9, is wrong too
+    row "5: a rule one byte short, before 9" (checks (withRules ((1 ∷ 0 ∷ 1 ∷ 7 ∷ 0 ∷ 0 ∷ []) ∷ [])) 5) ∷
+    row "5: a rule one byte long, before 9" (checks (withRules ((1 ∷ 0 ∷ 1 ∷ 7 ∷ 0 ∷ 0 ∷ 0 ∷ 0 ∷ []) ∷ [])) 5) ∷
+    row "5: rule 0, before rule 1's 8" (checks (withRules ((1 ∷ 0 ∷ 1 ∷ []) ∷ (0 ∷ 0 ∷ 0 ∷ []) ∷ [])) 5) ∷
+    -- "9 a right from g on, a blank from k on"
+    row "9: a condition's right g, before rule 1's 5" (checks (condition (ifIn 2 0 0)) 9) ∷
+    row "9: a condition's subject blank k" (checks (condition (ifIn 0 2 0)) 9) ∷
+    row "9: a condition's object blank k" (checks (condition (ifIn 0 0 2)) 9) ∷
+    row "5: a condition's right g - 1 and blanks k - 1" (checks (condition (ifIn 1 1 1)) 5) ∷
+    row "9: a step's right g" (checks (operation (enter 2 0 0)) 9) ∷
+    row "9: a deleted right g" (checks (operation (delete 2 0 0)) 9) ∷
+    row "9: a step's first blank k" (checks (operation (enter 0 2 0)) 9) ∷
+    row "9: a step's second blank k" (checks (operation (enter 0 0 2)) 9) ∷
+    row "5: a step's right g - 1 and blanks k - 1" (checks (operation (enter 1 1 1)) 5) ∷
+    -- "a step kind not 1 to 6, or right or second blank not 0 in kinds 3 to 6"
+    row "9: a step of kind 0" (checks (operation (step 0 0 0 0)) 9) ∷
+    row "9: a step of kind 7" (checks (operation (step 7 0 0 0)) 9) ∷
+    row "9: a right in kind 3" (checks (operation (step 3 1 0 0)) 9) ∷
+    row "9: a right in kind 6" (checks (operation (step 6 1 0 0)) 9) ∷
+    row "9: a second blank in kind 3" (checks (operation (step 3 0 0 1)) 9) ∷
+    row "9: a second blank in kind 6" (checks (operation (step 6 0 0 1)) 9) ∷
+    row "9: a created blank k" (checks (operation (createSubject 2)) 9) ∷
+    -- all of it at its largest: 4 blanks, 4 conditions, 6 steps of the six kinds; 32 rules
+    row "accepted: the largest rule"
+    (checks
+    (withRules
+    (ruleBytes 4
+    (ifIn 1 3 3 ∷ ifIn 1 3 3 ∷ ifIn 1 3 3 ∷ ifIn 1 3 3 ∷ [])
+    (enter 1 3 3 ∷ delete 1 3 3 ∷ createSubject 3 ∷ createObject 3 ∷ destroySubject 3 ∷ destroyObject 3 ∷ []) ∷ []))
+    0) ∷
+    row "accepted: 34 pairs" (checks (withRules (replicate 32 (onName (createSubject 0)))) 0) ∷
+    []

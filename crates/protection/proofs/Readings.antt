@@ -1,0 +1,196 @@
+-- Readings of document 01 that no code of this crate computes, each on a system of a few commands, by computation. Assumes nothing.
+use Prim.Native.Nat.{ℕ}
+use mathlib.Core.Path.{_≡_, refl}
+use mathlib.Core.Bool.{Bool, true, false, _&&_, _||_}
+use mathlib.Core.List.{List, [], _∷_}
+use lib.Dec.{T, eqb}
+use lib.ListN.{getD}
+use Rattle.cases.specs.Cases.{turns, each}
+use Rattle.protection.specs.Limits.{unused}
+use Rattle.protection.specs.State.{Kind, absent, object, subject, State}
+use Rattle.protection.specs.Command.{Condition, Operation, enter, delete, createSubject, createObject, destroySubject, destroyObject, Command, System, Call}
+use Rattle.protection.specs.Execution.{bounded, unbounded, Outcome, refused, execute}
+use Rattle.protection.specs.Leak.{leaks, anyRefused, LeaksLast}
+use Rattle.protection.specs.Judge.{lowestAbsent, rounds, count, Verdict, judge}
+
+-- ---- small states, systems and calls
+-- a right in a cell
+record Mark : Type 0 where
+  subject : ℕ
+  object : ℕ
+  right : ℕ
+
+abbrev mark : ℕ → ℕ → ℕ → Mark
+mark q s o = record { subject = s; object = o; right = q }
+
+abbrev marked : List Mark → ℕ → ℕ → ℕ → Bool
+marked [] s o q = false
+marked (c ∷ cs) s o q = ((eqb (c .subject) s && eqb (c .object) o) && eqb (c .right) q) || marked cs s o q
+
+-- the kinds of the names from 0 on, all others absent; and the rights that are in cells
+abbrev state : List Kind → List Mark → State
+state ks cs = record { kind = λ x. getD ks x absent; cell = marked cs }
+
+abbrev ifIn : ℕ → ℕ → ℕ → Condition
+ifIn q s o = record { right = q; subject = s; object = o }
+
+abbrev command : ℕ → List Condition → List Operation → Command
+command k cs os = record { parameters = k; conditions = cs; operations = os }
+
+abbrev system : ℕ → List Command → System
+system g cs = record { rights = g; commands = cs }
+
+abbrev call : ℕ → List ℕ → Call
+call i xs = record { command = i; a0 = getD xs 0 unused; a1 = getD xs 1 unused; a2 = getD xs 2 unused; a3 = getD xs 3 unused }
+
+-- ---- leaks (right 0, rules (a) on the cell (a,a))
+-- rule 0 enters 0; 1 deletes 0 and enters it again; 2 enters 0 and deletes it again; 3 enters 0, and then a is created, which cannot be done; 4 creates a
+abbrev S : System
+S =
+    system 1
+    (command 1 [] (enter 0 0 0 ∷ []) ∷
+    command 1 [] (delete 0 0 0 ∷ enter 0 0 0 ∷ []) ∷
+    command 1 [] (enter 0 0 0 ∷ delete 0 0 0 ∷ []) ∷
+    command 1 [] (enter 0 0 0 ∷ createSubject 0 ∷ []) ∷
+    command 1 [] (createSubject 0 ∷ []) ∷ [])
+
+-- subject 0, without and with right 0 in (0,0)
+abbrev without : State
+without = state (subject ∷ []) []
+
+abbrev with : State
+with = state (subject ∷ []) (mark 0 0 0 ∷ [])
+
+-- of a start and a run, whether it leaks right 0 on the printer's machine
+abbrev leaksFrom : State → List Call → Bool
+leaksFrom m xs = leaks unbounded S 0 m xs
+
+-- "It leaks r if .. some step enters r into a cell that lacks r at that step, even if a later step removes it."
+leak-after-delete : leaksFrom with (call 1 (0 ∷ []) ∷ []) ≡ true
+unfolding leaks each
+leak-after-delete = refl
+
+leak-before-delete : leaksFrom without (call 2 (0 ∷ []) ∷ []) ≡ true
+unfolding leaks each
+leak-before-delete = refl
+
+right-there : leaksFrom with (call 0 (0 ∷ []) ∷ []) ≡ false
+unfolding leaks each
+right-there = refl
+
+-- "in a rule carried out whole"
+refused-later : leaksFrom without (call 3 (0 ∷ []) ∷ []) ≡ false
+unfolding leaks each
+refused-later = refl
+
+-- "a finite list of rule runs, refused ones included; it may be empty"
+refused-first : leaksFrom without (call 3 (0 ∷ []) ∷ call 0 (0 ∷ []) ∷ []) ≡ true
+unfolding leaks each
+refused-first = refl
+
+no-call : leaksFrom without [] ≡ false
+unfolding leaks
+no-call = refl
+
+-- "Each rule run meets the state that the one before left"
+state-before : leaksFrom with (call 4 (1 ∷ []) ∷ call 0 (1 ∷ []) ∷ []) ≡ true
+unfolding leaks each
+state-before = refl
+
+-- "names are whole numbers from 0 up, without a bound"; on the file's matrix they are below 32
+large-name : leaksFrom with (call 4 (100000 ∷ []) ∷ call 0 (100000 ∷ []) ∷ []) ≡ true
+unfolding leaks each
+large-name = refl
+
+bounded-names : execute bounded S with (call 4 (32 ∷ [])) ≡ refused 12
+unfolding each
+bounded-names = refl
+
+-- "save that 31 is no bound for a name": positions from k on hold 255
+unused-position : execute unbounded S with (call 4 (1 ∷ 0 ∷ [])) ≡ refused 12
+unfolding each
+unused-position = refl
+
+-- "It leaks at its last step and nowhere sooner if none of its rule runs is refused, it leaks, and without its last rule run it does not."
+last-leaks : LeaksLast unbounded S 0 with (call 4 (1 ∷ []) ∷ call 0 (1 ∷ []) ∷ [])
+unfolding leaks anyRefused each
+last-leaks = record { carried = λ t. t; leak = tt; sooner = λ t. t }
+
+none-refused : LeaksLast unbounded S 0 without (call 3 (0 ∷ []) ∷ call 0 (0 ∷ []) ∷ []) → ⊥
+unfolding anyRefused each
+none-refused h = h .carried tt
+
+it-leaks : LeaksLast unbounded S 0 with (call 0 (0 ∷ []) ∷ []) → ⊥
+unfolding leaks each
+it-leaks h = h .leak
+
+not-sooner : LeaksLast unbounded S 0 without (call 0 (0 ∷ []) ∷ call 0 (0 ∷ []) ∷ []) → ⊥
+unfolding leaks each
+not-sooner h = h .sooner tt
+
+-- ---- the judge
+abbrev safe : List Call → Verdict
+safe xs = record { unsafe = false; steps = xs }
+
+abbrev unsafe : List Call → Verdict
+unsafe xs = record { unsafe = true; steps = xs }
+
+-- "for each rule through all actuals, the first blank slowest"
+blanks-in-order : judge (system 1 (command 2 [] (enter 0 0 1 ∷ []) ∷ [])) 0 (state (subject ∷ subject ∷ []) (mark 0 0 0 ∷ [])) ≡ unsafe (call 0 (0 ∷ 1 ∷ []) ∷ [])
+unfolding judge rounds lowestAbsent turns each count
+blanks-in-order = refl
+
+-- "It goes through the rules in order"; "After the last rule it starts again"
+rules-in-order
+    : judge (system 2 (command 1 (ifIn 1 0 0 ∷ []) (enter 0 0 0 ∷ []) ∷ command 1 [] (enter 1 0 0 ∷ []) ∷ command 1 [] (enter 0 0 0 ∷ []) ∷ [])) 0 without
+    ≡ unsafe (call 1 (0 ∷ []) ∷ call 2 (0 ∷ []) ∷ [])
+unfolding judge rounds lowestAbsent turns each count
+rules-in-order = refl
+
+again-from-the-first : judge (system 2 (command 1 (ifIn 1 0 0 ∷ []) (enter 0 0 0 ∷ []) ∷ command 1 [] (enter 1 0 0 ∷ []) ∷ [])) 0 without ≡ unsafe (call 1 (0 ∷ []) ∷ call 0 (0 ∷ []) ∷ [])
+unfolding judge rounds lowestAbsent turns each count
+again-from-the-first = refl
+
+-- "A created blank gets only the name that is lowest absent when the judge reaches the rule in that round"; "a create object if the judge has done no create
+-- object yet; a create subject likewise, each counted by itself. Deletes and destroys are passed by."
+creates
+    : judge
+    (system 2
+    (command 1 [] (createSubject 0 ∷ []) ∷
+    command 1 [] (createSubject 0 ∷ []) ∷
+    command 1 [] (createObject 0 ∷ []) ∷
+    command 1 [] (createObject 0 ∷ []) ∷
+    command 1 [] (enter 1 0 0 ∷ []) ∷
+    command 1 [] (delete 1 0 0 ∷ []) ∷
+    command 1 [] (destroySubject 0 ∷ []) ∷
+    command 1 [] (destroyObject 0 ∷ []) ∷ []))
+    0
+    (state (absent ∷ subject ∷ object ∷ []) [])
+    ≡ safe (call 0 (0 ∷ []) ∷ call 2 (3 ∷ []) ∷ call 4 (0 ∷ []) ∷ call 4 (1 ∷ []) ∷ [])
+unfolding judge rounds lowestAbsent turns each count
+creates = refl
+
+-- "for each start cell (s, o) holding r, row by row: the first allowed delete of r from it, and the first enter of r into it allowed once r is gone; the first
+-- cell with both adds these two steps": from (0,0) right 0 is deleted and not entered again
+cells-in-order
+    : judge
+    (system 2 (command 2 [] (delete 0 0 1 ∷ []) ∷ command 2 (ifIn 1 0 1 ∷ []) (enter 0 0 1 ∷ []) ∷ []))
+    0
+    (state (subject ∷ subject ∷ []) (mark 0 0 0 ∷ mark 0 0 1 ∷ mark 1 0 1 ∷ mark 0 1 0 ∷ mark 1 1 0 ∷ []))
+    ≡ unsafe (call 0 (0 ∷ 1 ∷ []) ∷ call 1 (0 ∷ 1 ∷ []) ∷ [])
+unfolding judge rounds lowestAbsent turns each count
+cells-in-order = refl
+
+-- "once r is gone": from that cell, and from no other
+gone-there : judge (system 1 (command 1 [] (delete 0 0 0 ∷ []) ∷ command 1 (ifIn 0 0 0 ∷ []) (enter 0 0 0 ∷ []) ∷ [])) 0 with ≡ safe []
+unfolding judge rounds lowestAbsent turns each count
+gone-there = refl
+
+there-elsewhere
+    : judge
+    (system 1 (command 2 (ifIn 0 0 0 ∷ []) (enter 0 0 1 ∷ []) ∷ command 2 [] (delete 0 0 1 ∷ []) ∷ []))
+    0
+    (state (subject ∷ object ∷ []) (mark 0 0 0 ∷ mark 0 0 1 ∷ []))
+    ≡ unsafe (call 1 (0 ∷ 1 ∷ []) ∷ call 0 (0 ∷ 1 ∷ []) ∷ [])
+unfolding judge rounds lowestAbsent turns each count
+there-elsewhere = refl
