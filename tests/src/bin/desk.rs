@@ -80,7 +80,10 @@ fn said(program: &PathBuf, input: Stdio, output: Stdio) -> Result<(Vec<u8>, Stri
         .spawn()
         .and_then(|child| child.wait_with_output())
         .map_err(|wrong| format!("{}: {wrong}", program.display()))?;
-    Ok((ran.stdout, String::from_utf8_lossy(&ran.stderr).into_owned()))
+    Ok((
+        ran.stdout,
+        String::from_utf8_lossy(&ran.stderr).into_owned(),
+    ))
 }
 
 /// A folder cannot be read: that is no empty input. A full device takes no answer.
