@@ -32,6 +32,9 @@ impl Command {
 
     pub const OPERATIONS: usize = 6;
 
+    // An actual in a position that the command does not use.
+    pub const UNUSED: u8 = 255;
+
     pub fn none() -> Self
         ensures { λ r. ⌜ r ≡ noCommand ⌝ }
     {
@@ -201,7 +204,7 @@ pub enum Operation {
 impl Command {
     // Operation number j.
     pub fn operation_at(self, j: usize) -> Operation
-        requires { ⌜ j < 6 ⌝ }
+        requires { ⌜ j < operations ⌝ }
         ensures { λ r. ⌜ r ≡ operationAt self j ⌝ }
     {
         let kind = self.operation[4 * j];

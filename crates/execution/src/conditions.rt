@@ -14,14 +14,14 @@ use matrix::Matrix;
 
 // Actual b is a name, or 255 in an unused position.
 fn actual_fits(k: u8, a: [u8; Command::PARAMETERS], b: usize) -> bool
-    requires { ⌜ b < 4 ⌝ }
+    requires { ⌜ b < parameters ⌝ }
     ensures { λ r. ⌜ r ≡ actualFits bounded k (valuesOf a) b ⌝ }
 {
     let x = a[b];
     if b < k as usize {
         return (x as usize) < Matrix::NAMES;
     }
-    x == 255
+    x == Command::UNUSED
 }
 
 pub fn actuals_fit(k: u8, a: [u8; Command::PARAMETERS]) -> bool

@@ -12,7 +12,7 @@ ghost use Rattle.commands.specs.Fits.{Fits};
 ghost use Rattle.policy.specs.Fits.{PolicyFits};
 ghost use Rattle.execution.specs.Runs.{OperationsApply, RanAs, refusedExecuted, ExecutedAs, outcomeOf};
 
-pub mod conditions;
+mod conditions;
 
 use commands::Command;
 use matrix::Matrix;

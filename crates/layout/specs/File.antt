@@ -6,7 +6,10 @@ use lib.ListN.{getD, take, drop}
 abbrev pub byte : List ℕ → ℕ → ℕ
 byte f i = getD f i 0
 
--- "16-bit values low byte first"
+-- "16-bit values low byte first"; each is below `words`
+abbrev pub words : ℕ
+words = 65536
+
 abbrev pub word : List ℕ → ℕ → ℕ
 word f i = byte f i + 256 * byte f (i + 1)
 

@@ -2,15 +2,18 @@
 ghost use mathlib.Core.Path.{_≡_};
 ghost use Prim.Native.Nat.{_+_, _*_, _≤_, _<_};
 ghost use lib.ListN.{length};
-ghost use Rattle.layout.specs.File.{word, pairsOf};
+ghost use Rattle.layout.specs.File.{words, word, pairsOf};
 ghost use Rattle.layout.specs.Refusals.{headerRefusal, pairsRefusal, sizesRefusal};
 use matrix::Matrix;
 
 // Bytes of a file.
 pub const BYTES: usize = 4096;
 
-// Pairs: one each for the kinds and the cells, and one for each of up to 32 commands.
-pub const PAIRS: u8 = 34;
+// Commands of a file.
+pub const COMMANDS: usize = 32;
+
+// One pair each for the kinds and the cells, and one for each command.
+const PAIRS: u8 = 2 + COMMANDS as u8;
 
 // The refusal of the first bytes, or 0.
 pub fn header_refusal(file: &[u8]) -> u8
@@ -45,7 +48,7 @@ pub fn header_refusal(file: &[u8]) -> u8
 // A 16-bit value, low byte first.
 pub fn word_at(file: &[u8], at: usize) -> usize
     requires { ⌜ at + 2 ≤ length (now file) ⌝ }
-    ensures { λ r. ⌜ (r ≡ word (now (file .entry)) at) × (r < 65536) ⌝ }
+    ensures { λ r. ⌜ (r ≡ word (now (file .entry)) at) × (r < words) ⌝ }
 {
     (file[at] as usize) + 256 * (file[at + 1] as usize)
 }
@@ -72,7 +75,7 @@ pub fn pairs_refusal(file: &[u8], pairs: usize) -> u8
 
 // The refusal of the lengths of kinds and cells, or 0.
 pub fn sizes_refusal(file: &[u8]) -> u8
-    requires { ⌜ 10 ≤ length (now file) ⌝ }
+    requires { ⌜ 2 + 4 * 2 ≤ length (now file) ⌝ }
     ensures { λ r. ⌜ r ≡ sizesRefusal (now (file .entry)) ⌝ }
 {
     let kinds = word_at(file, 4);

@@ -85,11 +85,11 @@ fn put_actuals(out: &mut [u8], at: usize, k: u8, a0: u8, a1: u8, a2: u8, a3: u8)
 }
 
 // A step's line: the rule's number and the first k actuals.
-fn put_line(out: &mut [u8], at: usize, k: u8, rule: u8, a0: u8, a1: u8, a2: u8, a3: u8) -> usize
+fn put_line(out: &mut [u8], at: usize, k: u8, command: u8, a0: u8, a1: u8, a2: u8, a3: u8) -> usize
     requires { ⌜ at + 20 ≤ length (now out) ⌝ }
-    ensures { λ r. ⌜ PutWithin 20 (now (out .entry)) at (line k (record { command = rule; a0 = a0; a1 = a1; a2 = a2; a3 = a3 })) r (now (out .exit)) ⌝ }
+    ensures { λ r. ⌜ PutWithin 20 (now (out .entry)) at (line k (record { command = command; a0 = a0; a1 = a1; a2 = a2; a3 = a3 })) r (now (out .exit)) ⌝ }
 {
-    let b1 = put_number(out, at, rule);
+    let b1 = put_number(out, at, command);
     let b2 = put_actuals(out, b1, k, a0, a1, a2, a3);
     put_byte(out, b2, b'\n')
 }
@@ -119,10 +119,10 @@ fn put_lines(out: &mut [u8], from: usize, p: Policy, steps: &[u8], n: usize) -> 
 {
     let mut at = from;
     for i in 0..n {
-        let rule = steps[5 * i] as usize;
+        let command = steps[5 * i] as usize;
         let mut k = 0;
-        if rule < Policy::COMMANDS {
-            let c = p.command[rule];
+        if command < Policy::COMMANDS {
+            let c = p.command[command];
             k = c.parameters;
         }
         at = put_step(out, at, k, steps, i);

@@ -3,11 +3,12 @@ ghost use mathlib.Core.Path.{_≡_};
 ghost use Prim.Native.Nat.{_+_, _*_, _≤_, _<_};
 ghost use lib.ListN.{length};
 ghost use Rattle.cases.specs.Cases.{each};
+ghost use Rattle.protection.specs.Limits.{names, rights};
 ghost use Rattle.matrix.specs.Refusals.{kindFits, cellFits, matrixRefusal};
 use crate::Matrix;
 
 fn kinds_fit(kinds: &[u8; Matrix::NAMES]) -> bool
-    ensures { λ r. ⌜ r ≡ each (kindFits (now (kinds .entry))) 32 0 ⌝ }
+    ensures { λ r. ⌜ r ≡ each (kindFits (now (kinds .entry))) names 0 ⌝ }
 {
     for x in 0..Matrix::NAMES {
         if 2 < kinds[x] {
@@ -23,7 +24,7 @@ fn cell_fits<'a>(
     cells: &'a [u8; Matrix::NAMES * Matrix::NAMES],
     c: usize,
 ) -> bool
-    requires { ⌜ (g ≤ 8) × (c < 1024) ⌝ }
+    requires { ⌜ (g ≤ rights) × (c < names * names) ⌝ }
     ensures { λ r. ⌜ r ≡ cellFits g (now (kinds .entry)) (now (cells .entry)) c ⌝ }
 {
     let cell = cells[c];
@@ -41,8 +42,8 @@ fn cells_fit<'a>(
     kinds: &'a [u8; Matrix::NAMES],
     cells: &'a [u8; Matrix::NAMES * Matrix::NAMES],
 ) -> bool
-    requires { ⌜ g ≤ 8 ⌝ }
-    ensures { λ r. ⌜ r ≡ each (cellFits g (now (kinds .entry)) (now (cells .entry))) 1024 0 ⌝ }
+    requires { ⌜ g ≤ rights ⌝ }
+    ensures { λ r. ⌜ r ≡ each (cellFits g (now (kinds .entry)) (now (cells .entry))) (names * names) 0 ⌝ }
 {
     for c in 0..Matrix::NAMES * Matrix::NAMES {
         if !cell_fits(g, kinds, cells, c) {
@@ -58,7 +59,7 @@ pub fn matrix_refusal<'a>(
     kinds: &'a [u8; Matrix::NAMES],
     cells: &'a [u8; Matrix::NAMES * Matrix::NAMES],
 ) -> u8
-    requires { ⌜ g ≤ 8 ⌝ }
+    requires { ⌜ g ≤ rights ⌝ }
     ensures { λ r. ⌜ r ≡ matrixRefusal g (now (kinds .entry)) (now (cells .entry)) ⌝ }
 {
     if !kinds_fit(kinds) {

@@ -31,7 +31,7 @@ struct CommandsRead {
 }
 
 impl Policy {
-    pub const COMMANDS: usize = 32;
+    pub const COMMANDS: usize = layout::COMMANDS;
 
     pub fn none() -> Self
         ensures { λ r. ⌜ r ≡ noPolicy ⌝ }
@@ -133,12 +133,12 @@ pub fn read_policy(file: &[u8]) -> PolicyRead
     if cells != 0 {
         return refused_with(cells);
     }
-    let rules = read_commands(file, g, n - 2);
-    let refused = rules.refused;
+    let commands = read_commands(file, g, n - 2);
+    let refused = commands.refused;
     if refused != 0 {
         return refused_with(refused);
     }
-    let command = rules.all;
+    let command = commands.all;
     PolicyRead {
         refused: 0,
         policy: Policy {

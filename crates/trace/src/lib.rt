@@ -2,6 +2,7 @@
 ghost use mathlib.Core.Path.{_≡_};
 ghost use Prim.Native.Nat.{_+_, _*_, _^_, _≤_, _<_};
 ghost use lib.ListN.{length};
+ghost use Rattle.protection.specs.Limits.{rights};
 ghost use Rattle.policy.specs.Contents.{systemOf};
 ghost use Rattle.policy.specs.Fits.{PolicyFits};
 ghost use Rattle.matrix.specs.Matrices.{stateOf};
@@ -17,9 +18,9 @@ use matrix::Matrix;
 use policy::Policy;
 
 // One step of a trace: a command's number and four actuals.
-pub struct Step {
-    pub command: u8,
-    pub actuals: [u8; Command::PARAMETERS],
+struct Step {
+    command: u8,
+    actuals: [u8; Command::PARAMETERS],
 }
 
 // What a replay answers: no leak, the first leaking step, or the first refused step with its refusal.
@@ -30,7 +31,7 @@ pub enum Replay {
 }
 
 // The five bytes of step i.
-pub fn step_at(trace: &[u8], i: usize) -> Step
+fn step_at(trace: &[u8], i: usize) -> Step
     requires { ⌜ 5 * i + 5 ≤ length (now trace) ⌝ }
     ensures { λ r. ⌜ r ≡ stepAt (now (trace .entry)) i ⌝ }
 {
@@ -42,21 +43,21 @@ pub fn step_at(trace: &[u8], i: usize) -> Step
 }
 
 // A reader of a trace: the lent trace, and how many of its steps lie behind the reader.
-pub struct TraceReader<'a> {
-    pub trace: &'a [u8],
-    pub at: usize,
+struct TraceReader<'a> {
+    trace: &'a [u8],
+    at: usize,
 }
 
 impl<'a> TraceReader<'a> {
     // A reader before the first step.
-    pub fn new(trace: &'a [u8]) -> TraceReader<'a>
+    fn new(trace: &'a [u8]) -> TraceReader<'a>
         ensures { λ r. ⌜ (r .trace ≡ trace .entry) × (r .at ≡ 0) ⌝ }
     {
         TraceReader { trace, at: 0 }
     }
 
     // The step that lies before it.
-    pub fn step(self) -> Step
+    fn step(self) -> Step
         requires { ⌜ 5 * self .at + 5 ≤ length (now (self .trace)) ⌝ }
         ensures { λ r. ⌜ r ≡ stepAt (now (self .entry .trace)) (self .entry .at) ⌝ }
     {
@@ -64,7 +65,7 @@ impl<'a> TraceReader<'a> {
     }
 
     // Moved on past that step.
-    pub fn past(self) -> TraceReader<'a>
+    fn past(self) -> TraceReader<'a>
         requires { ⌜ self .at + 1 < 2 ^ 64 ⌝ }
         ensures { λ r. ⌜ (r .trace ≡ self .entry .trace) × (r .at ≡ self .entry .at + 1) ⌝ }
     {
@@ -88,7 +89,7 @@ fn end_of(answer: Answer, i: usize) -> Replay
 
 // A step on a matrix, for the loop below, which holds a reader and so is proved by hand.
 fn play(p: Policy, matrix: Matrix, step: Step, right: u8) -> Executed
-    requires { ⌜ PolicyFits p × Canonical 8 (matrix .kinds) (matrix .cells) ⌝ }
+    requires { ⌜ PolicyFits p × Canonical rights (matrix .kinds) (matrix .cells) ⌝ }
     ensures { λ r. ⌜ ExecutedAs right (outcomeOf p matrix (step .command) (step .actuals)) matrix r ⌝ }
 {
     let actuals = step.actuals;

@@ -71,6 +71,42 @@ fn printed(output: Output) -> Result<Vec<u8>, String> {
     Ok(output.stdout)
 }
 
+/// What a run with these streams printed and said, where the program is the proved one.
+fn said(program: &PathBuf, input: Stdio, output: Stdio) -> Result<(Vec<u8>, String), String> {
+    let ran = Command::new(program)
+        .stdin(input)
+        .stdout(output)
+        .stderr(Stdio::piped())
+        .spawn()
+        .and_then(|child| child.wait_with_output())
+        .map_err(|wrong| format!("{}: {wrong}", program.display()))?;
+    Ok((
+        ran.stdout,
+        String::from_utf8_lossy(&ran.stderr).into_owned(),
+    ))
+}
+
+/// A folder cannot be read: that is no empty input. A full device takes no answer.
+fn streams_that_fail(group: &mut Group, program: &PathBuf) {
+    let open = |path: &str| File::open(path).map(Stdio::from);
+    let full = File::options().write(true).open("/dev/full");
+    let (Ok(folder), Ok(example), Ok(full)) = (open("."), open("../tables/vermilion.file"), full)
+    else {
+        group.input(false, || "the streams could not be opened".to_string());
+        return;
+    };
+    let read = said(program, folder, Stdio::piped());
+    group.input(
+        matches!(&read, Ok((out, told)) if out.is_empty() && told.starts_with("standard input: ")),
+        || format!("a folder as input: {read:?}"),
+    );
+    let written = said(program, example, full.into());
+    group.input(
+        matches!(&written, Ok((_, told)) if told.starts_with("standard output: ")),
+        || format!("a full device as output: {written:?}"),
+    );
+}
+
 fn same(group: &mut Group, given: Result<Vec<u8>, String>, wanted: &[u8], input: &[u8]) {
     group.input(given.as_deref() == Ok(wanted), || {
         let given = given.map(|bytes| String::from_utf8_lossy(&bytes).into_owned());
@@ -154,6 +190,12 @@ fn main() {
             same(group, answer, wanted.as_bytes(), &input);
         }
     });
+
+    if let Some(program) = &desk_program.program {
+        report.group("streams that fail", 2, |group| {
+            streams_that_fail(group, program);
+        });
+    }
 
     report.group("generated inputs", 600, |group| {
         let mut first_words = [0; 3];

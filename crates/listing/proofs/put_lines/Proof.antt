@@ -20,14 +20,14 @@ abbrev μ-loop : tie.MeasureT-loop
 loop-holds : tie.Need-loop-holds Inv-loop μ-loop
 loop-holds c = (omega arith, omega arith, refl, search lines-start)
 
-mul-rule : tie.Need-mul-rule Inv-loop μ-loop
-mul-rule c = search needs
+mul-command : tie.Need-mul-command Inv-loop μ-loop
+mul-command c = search needs
 
-shared-slice-read-rule : tie.Need-shared-slice-read-rule Inv-loop μ-loop
-shared-slice-read-rule c = omega arith
+shared-slice-read-command : tie.Need-shared-slice-read-command Inv-loop μ-loop
+shared-slice-read-command c = omega arith
 
-cast-rule : tie.Need-cast-rule Inv-loop μ-loop
-cast-rule c = omega (arith, c .shared-slice-known2 .given (5 * c .before .before .loop .i))
+cast-command : tie.Need-cast-command Inv-loop μ-loop
+cast-command c = omega (arith, c .shared-slice-known2 .given (5 * c .before .before .loop .i))
 
 mul-c : tie.Need-mul-c Inv-loop μ-loop
 mul-c c = search needs
@@ -64,9 +64,9 @@ put-lines-spec =
     Inv-loop
     μ-loop
     loop-holds
-    mul-rule
-    shared-slice-read-rule
-    cast-rule
+    mul-command
+    shared-slice-read-command
+    cast-command
     mul-c
     element-copy-out-c
     put-step-requires
