@@ -9,58 +9,58 @@ use native.Mathlib.Omega.{arith}
 use borrow.Author.Tests.{not-true, not-false}
 use mathlib.Core.Option.{Option, none, some}
 use lib.ListN.{length, getD, getElem?, take}
-use Rattle.cases.specs.Cases.{listed}
+use Rattle.cases.specs.Cases.{tabulate}
 
-pub length-listed : {A : Type 0} (f : ℕ → A) (n j : ℕ) → length (listed f n j) ≡ n
-length-listed f zero j = refl
-length-listed f (suc n) j = ap suc (length-listed f n (suc j))
+pub length-tabulate : {A : Type 0} (f : ℕ → A) (n j : ℕ) → length (tabulate f n j) ≡ n
+length-tabulate f zero j = refl
+length-tabulate f (suc n) j = ap suc (length-tabulate f n (suc j))
 
-pub getD-listed : {A : Type 0} (f : ℕ → A) (d : A) (n j i : ℕ) → i < n → getD (listed f n j) i d ≡ f (j + i)
-getD-listed f d zero j i h = absurd (not-suc-le-zero h)
-getD-listed f d (suc n) j zero h = ap f (omega arith)
-getD-listed f d (suc n) j (suc i) h = getD-listed f d n (suc j) i (le-of-suc-le-suc h) ∙ ap f (omega arith)
+pub getD-tabulate : {A : Type 0} (f : ℕ → A) (d : A) (n j i : ℕ) → i < n → getD (tabulate f n j) i d ≡ f (j + i)
+getD-tabulate f d zero j i h = absurd (not-suc-le-zero h)
+getD-tabulate f d (suc n) j zero h = ap f (omega arith)
+getD-tabulate f d (suc n) j (suc i) h = getD-tabulate f d n (suc j) i (le-of-suc-le-suc h) ∙ ap f (omega arith)
 
-pub listed-same : {A : Type 0} (f g : ℕ → A) (n j : ℕ) → ((i : ℕ) → j ≤ i → i < j + n → f i ≡ g i) → listed f n j ≡ listed g n j
-listed-same f g zero j h = refl
-listed-same f g (suc n) j h =
-    ap₂ _∷_ (h j (omega arith) (omega arith)) (listed-same f g n (suc j) (λ i l k. h i (omega arith) (omega arith)))
+pub tabulate-same : {A : Type 0} (f g : ℕ → A) (n j : ℕ) → ((i : ℕ) → j ≤ i → i < j + n → f i ≡ g i) → tabulate f n j ≡ tabulate g n j
+tabulate-same f g zero j h = refl
+tabulate-same f g (suc n) j h =
+    ap₂ _∷_ (h j (omega arith) (omega arith)) (tabulate-same f g n (suc j) (λ i l k. h i (omega arith) (omega arith)))
 
 -- a test that holds of a list if p holds of one of its elements: a loop over the values of f
-module _ {A : Type 0} (P : List A → Bool) (p : A → Bool) (split : (x : A) (xs : List A) → P (x ∷ xs) ≡ p x || P xs) (f : ℕ → A) (n j : ℕ) (all : Bool) where
-  unrolled : j < n → P (listed f (n - j) j) ≡ p (f j) || P (listed f (n - (j + 1)) (j + 1))
+module _ {A : Type 0} (P : List A → Bool) (p : A → Bool) (split : (x : A) (xs : List A) → P (x ∷ xs) ≡ p x || P xs) (f : ℕ → A) (n j : ℕ) (whole : Bool) where
+  unrolled : j < n → P (tabulate f (n - j) j) ≡ p (f j) || P (tabulate f (n - (j + 1)) (j + 1))
   unrolled h =
       let z : n - j ≡ suc (n - (j + 1)) = omega arith in
-      ap (λ (k : ℕ). P (listed f k j)) z ∙ split (f j) (listed f (n - (j + 1)) (suc j)) ∙ rw (add-one j)
+      ap (λ (k : ℕ). P (tabulate f k j)) z ∙ split (f j) (tabulate f (n - (j + 1)) (suc j)) ∙ rw (add-one j)
 
-  pub any-found : (r : Bool) → r ≡ p (f j) → r ≡ true → j < n → P (listed f (n - j) j) ≡ all → true ≡ all
+  pub any-found : (r : Bool) → r ≡ p (f j) → r ≡ true → j < n → P (tabulate f (n - j) j) ≡ whole → true ≡ whole
   any-found r d t h e = let z : p (f j) ≡ true = sym d ∙ t in sym (unrolled h ∙ rw z) ∙ e
 
-  pub any-next : (r : Bool) → r ≡ p (f j) → r ≡ false → j < n → P (listed f (n - j) j) ≡ all → P (listed f (n - (j + 1)) (j + 1)) ≡ all
+  pub any-next : (r : Bool) → r ≡ p (f j) → r ≡ false → j < n → P (tabulate f (n - j) j) ≡ whole → P (tabulate f (n - (j + 1)) (j + 1)) ≡ whole
   any-next r d t h e = let z : p (f j) ≡ false = sym d ∙ t in sym (unrolled h ∙ rw z) ∙ e
 
 -- a test that holds of a list if p holds of each of its elements
-module _ {A : Type 0} (P : List A → Bool) (p : A → Bool) (split : (x : A) (xs : List A) → P (x ∷ xs) ≡ p x && P xs) (f : ℕ → A) (n j : ℕ) (all : Bool) where
-  unrolled-all : j < n → P (listed f (n - j) j) ≡ p (f j) && P (listed f (n - (j + 1)) (j + 1))
-  unrolled-all h =
+module _ {A : Type 0} (P : List A → Bool) (p : A → Bool) (split : (x : A) (xs : List A) → P (x ∷ xs) ≡ p x && P xs) (f : ℕ → A) (n j : ℕ) (whole : Bool) where
+  unrolled-every : j < n → P (tabulate f (n - j) j) ≡ p (f j) && P (tabulate f (n - (j + 1)) (j + 1))
+  unrolled-every h =
       let z : n - j ≡ suc (n - (j + 1)) = omega arith in
-      ap (λ (k : ℕ). P (listed f k j)) z ∙ split (f j) (listed f (n - (j + 1)) (suc j)) ∙ rw (add-one j)
+      ap (λ (k : ℕ). P (tabulate f k j)) z ∙ split (f j) (tabulate f (n - (j + 1)) (suc j)) ∙ rw (add-one j)
 
   -- the test is a callee's answer r, and the code branches on `!r`
-  pub all-stop : (r : Bool) → r ≡ p (f j) → not r ≡ true → j < n → P (listed f (n - j) j) ≡ all → false ≡ all
-  all-stop r d t h e = let z : p (f j) ≡ false = sym d ∙ not-true r t in sym (unrolled-all h ∙ rw z) ∙ e
+  pub every-stop : (r : Bool) → r ≡ p (f j) → not r ≡ true → j < n → P (tabulate f (n - j) j) ≡ whole → false ≡ whole
+  every-stop r d t h e = let z : p (f j) ≡ false = sym d ∙ not-true r t in sym (unrolled-every h ∙ rw z) ∙ e
 
-  pub all-next : (r : Bool) → r ≡ p (f j) → not r ≡ false → j < n → P (listed f (n - j) j) ≡ all → P (listed f (n - (j + 1)) (j + 1)) ≡ all
-  all-next r d t h e = let z : p (f j) ≡ true = sym d ∙ not-false r t in sym (unrolled-all h ∙ rw z) ∙ e
+  pub every-next : (r : Bool) → r ≡ p (f j) → not r ≡ false → j < n → P (tabulate f (n - j) j) ≡ whole → P (tabulate f (n - (j + 1)) (j + 1)) ≡ whole
+  every-next r d t h e = let z : p (f j) ≡ true = sym d ∙ not-false r t in sym (unrolled-every h ∙ rw z) ∙ e
 
-pub found-listed : {A : Type 0} (f : ℕ → A) (n j i : ℕ) → i < n → getElem? (listed f n j) i ≡ some (f (j + i))
-found-listed f zero j i h = absurd (not-suc-le-zero h)
-found-listed f (suc n) j zero h = ap (λ (k : ℕ). some (f k)) (omega arith)
-found-listed f (suc n) j (suc i) h = found-listed f n (suc j) i (le-of-suc-le-suc h) ∙ ap (λ (k : ℕ). some (f k)) (omega arith)
+pub found-tabulate : {A : Type 0} (f : ℕ → A) (n j i : ℕ) → i < n → getElem? (tabulate f n j) i ≡ some (f (j + i))
+found-tabulate f zero j i h = absurd (not-suc-le-zero h)
+found-tabulate f (suc n) j zero h = ap (λ (k : ℕ). some (f k)) (omega arith)
+found-tabulate f (suc n) j (suc i) h = found-tabulate f n (suc j) i (le-of-suc-le-suc h) ∙ ap (λ (k : ℕ). some (f k)) (omega arith)
 
-pub none-listed : {A : Type 0} (f : ℕ → A) (n j i : ℕ) → n ≤ i → getElem? (listed f n j) i ≡ none
-none-listed f zero j i h = refl
-none-listed f (suc n) j zero h = absurd (not-suc-le-zero h)
-none-listed f (suc n) j (suc i) h = none-listed f n (suc j) i (le-of-suc-le-suc h)
+pub none-tabulate : {A : Type 0} (f : ℕ → A) (n j i : ℕ) → n ≤ i → getElem? (tabulate f n j) i ≡ none
+none-tabulate f zero j i h = refl
+none-tabulate f (suc n) j zero h = absurd (not-suc-le-zero h)
+none-tabulate f (suc n) j (suc i) h = none-tabulate f n (suc j) i (le-of-suc-le-suc h)
 
 -- inside a list the default does not matter
 pub getD-inside : {A : Type 0} (l : List A) (i : ℕ) (a b : A) → i < length l → getD l i a ≡ getD l i b
@@ -68,7 +68,7 @@ getD-inside [] i a b h = absurd (not-suc-le-zero h)
 getD-inside (x ∷ l) zero a b h = refl
 getD-inside (x ∷ l) (suc i) a b h = getD-inside l i a b (le-of-suc-le-suc h)
 
-pub take-listed : {A : Type 0} (f : ℕ → A) (k n j : ℕ) → k ≤ n → take k (listed f n j) ≡ listed f k j
-take-listed f zero n j h = refl
-take-listed f (suc k) zero j h = absurd (not-suc-le-zero h)
-take-listed {A} f (suc k) (suc n) j h = ap (λ (l : List A). f j ∷ l) (take-listed f k n (suc j) (le-of-suc-le-suc h))
+pub take-tabulate : {A : Type 0} (f : ℕ → A) (k n j : ℕ) → k ≤ n → take k (tabulate f n j) ≡ tabulate f k j
+take-tabulate f zero n j h = refl
+take-tabulate f (suc k) zero j h = absurd (not-suc-le-zero h)
+take-tabulate {A} f (suc k) (suc n) j h = ap (λ (l : List A). f j ∷ l) (take-tabulate f k n (suc j) (le-of-suc-le-suc h))

@@ -9,65 +9,65 @@ use native.Mathlib.Decide.{ℕ-discrete}
 use native.Mathlib.Omega.{arith}
 use borrow.Author.Tests.{not-true, not-false}
 use lib.Dec.{T}
-use Rattle.cases.specs.Cases.{pick, turns, each}
+use Rattle.cases.specs.Cases.{pick, iterate, all}
 use Rattle.cases.proofs.Bools.{is-true, holds as test-holds}
 
 left : (n j : ℕ) → j < n → n - j ≡ suc (n - (j + 1))
 left n j h = omega arith
 
-module _ {S : Type 0} (f : ℕ → S → S) (n : ℕ) (all : S) where
-  pub turns-start : (s : S) → turns f n 0 s ≡ all → turns f (n - 0) 0 s ≡ all
-  turns-start s e = rw sub-zero e
+module _ {S : Type 0} (f : ℕ → S → S) (n : ℕ) (whole : S) where
+  pub iterate-start : (s : S) → iterate f n 0 s ≡ whole → iterate f (n - 0) 0 s ≡ whole
+  iterate-start s e = rw sub-zero e
 
-  pub turns-more : (j : ℕ) (s t : S) → t ≡ f j s → j < n → turns f (n - j) j s ≡ all → turns f (n - (j + 1)) (j + 1) t ≡ all
-  unfolding turns
-  turns-more j s t d h e = rw (d, add-one j) (rw (left n j h, add-one j) at e)
+  pub iterate-more : (j : ℕ) (s t : S) → t ≡ f j s → j < n → iterate f (n - j) j s ≡ whole → iterate f (n - (j + 1)) (j + 1) t ≡ whole
+  unfolding iterate
+  iterate-more j s t d h e = rw (d, add-one j) (rw (left n j h, add-one j) at e)
 
-  pub turns-end : (j : ℕ) (s : S) → n ≤ j → turns f (n - j) j s ≡ all → s ≡ all
-  unfolding turns
-  turns-end j s h e = let z : n - j ≡ 0 = omega arith in rw z at e
+  pub iterate-end : (j : ℕ) (s : S) → n ≤ j → iterate f (n - j) j s ≡ whole → s ≡ whole
+  unfolding iterate
+  iterate-end j s h e = let z : n - j ≡ 0 = omega arith in rw z at e
 
 -- a state that no turn changes: what an early return rests on
-pub turns-still : {S : Type 0} (f : ℕ → S → S) (n j : ℕ) (s : S) → ((i : ℕ) → f i s ≡ s) → turns f n j s ≡ s
-unfolding turns
-turns-still f zero j s h = refl
-turns-still f (suc n) j s h = rw (h j) (turns-still f n (suc j) s h)
+pub iterate-still : {S : Type 0} (f : ℕ → S → S) (n j : ℕ) (s : S) → ((i : ℕ) → f i s ≡ s) → iterate f n j s ≡ s
+unfolding iterate
+iterate-still f zero j s h = refl
+iterate-still f (suc n) j s h = rw (h j) (iterate-still f n (suc j) s h)
 
 -- what each turn keeps, all turns keep
-pub turns-keep : {S : Type 0} (P : S → Type 0) (f : ℕ → S → S) → ((j : ℕ) (s : S) → P s → P (f j s)) → (n j : ℕ) (s : S) → P s → P (turns f n j s)
-unfolding turns
-turns-keep P f h zero j s p = p
-turns-keep P f h (suc n) j s p = turns-keep P f h n (suc j) (f j s) (h j s p)
+pub iterate-keep : {S : Type 0} (P : S → Type 0) (f : ℕ → S → S) → ((j : ℕ) (s : S) → P s → P (f j s)) → (n j : ℕ) (s : S) → P s → P (iterate f n j s)
+unfolding iterate
+iterate-keep P f h zero j s p = p
+iterate-keep P f h (suc n) j s p = iterate-keep P f h n (suc j) (f j s) (h j s p)
 
-module _ (p : ℕ → Bool) (n : ℕ) (all : Bool) where
-  unrolled : (j : ℕ) → j < n → each p (n - j) j ≡ pick (p j) (each p (n - (j + 1)) (j + 1)) false
-  unfolding each
+module _ (p : ℕ → Bool) (n : ℕ) (whole : Bool) where
+  unrolled : (j : ℕ) → j < n → all p (n - j) j ≡ pick (p j) (all p (n - (j + 1)) (j + 1)) false
+  unfolding all
   unrolled j h = rw (left n j h, add-one j)
 
-  pub each-false : (j : ℕ) → p j ≡ false → j < n → each p (n - j) j ≡ all → false ≡ all
-  each-false j z h e = (let u : pick (p j) (each p (n - (j + 1)) (j + 1)) false ≡ false = rw z in sym u) ∙ sym (unrolled j h) ∙ e
+  pub all-false : (j : ℕ) → p j ≡ false → j < n → all p (n - j) j ≡ whole → false ≡ whole
+  all-false j z h e = (let u : pick (p j) (all p (n - (j + 1)) (j + 1)) false ≡ false = rw z in sym u) ∙ sym (unrolled j h) ∙ e
 
-  pub each-true : (j : ℕ) → p j ≡ true → j < n → each p (n - j) j ≡ all → each p (n - (j + 1)) (j + 1) ≡ all
-  each-true j z h e = (let u : pick (p j) (each p (n - (j + 1)) (j + 1)) false ≡ each p (n - (j + 1)) (j + 1) = rw z in sym u) ∙ sym (unrolled j h) ∙ e
+  pub all-true : (j : ℕ) → p j ≡ true → j < n → all p (n - j) j ≡ whole → all p (n - (j + 1)) (j + 1) ≡ whole
+  all-true j z h e = (let u : pick (p j) (all p (n - (j + 1)) (j + 1)) false ≡ all p (n - (j + 1)) (j + 1) = rw z in sym u) ∙ sym (unrolled j h) ∙ e
 
   -- the loop's test is a callee's answer r, and the code branches on `!r`
-  pub each-stop : (j : ℕ) (r : Bool) → r ≡ p j → not r ≡ true → j < n → each p (n - j) j ≡ all → false ≡ all
-  each-stop j r d t h e = each-false j (sym d ∙ not-true r t) h e
+  pub all-stop : (j : ℕ) (r : Bool) → r ≡ p j → not r ≡ true → j < n → all p (n - j) j ≡ whole → false ≡ whole
+  all-stop j r d t h e = all-false j (sym d ∙ not-true r t) h e
 
-  pub each-more : (j : ℕ) (r : Bool) → r ≡ p j → not r ≡ false → j < n → each p (n - j) j ≡ all → each p (n - (j + 1)) (j + 1) ≡ all
-  each-more j r d t h e = each-true j (sym d ∙ not-false r t) h e
+  pub all-more : (j : ℕ) (r : Bool) → r ≡ p j → not r ≡ false → j < n → all p (n - j) j ≡ whole → all p (n - (j + 1)) (j + 1) ≡ whole
+  all-more j r d t h e = all-true j (sym d ∙ not-false r t) h e
 
-  pub each-end : (j : ℕ) → n ≤ j → each p (n - j) j ≡ all → true ≡ all
-  unfolding each
-  each-end j h e = let z : n - j ≡ 0 = omega arith in rw z at e
+  pub all-end : (j : ℕ) → n ≤ j → all p (n - j) j ≡ whole → true ≡ whole
+  unfolding all
+  all-end j h e = let z : n - j ≡ 0 = omega arith in rw z at e
 
 -- a test that holds at each number, at one of them
-pub each-at : (p : ℕ → Bool) (n j : ℕ) → each p n j ≡ true → (i : ℕ) → j ≤ i → i < j + n → p i ≡ true
-unfolding each
-each-at p zero j e i l h = absurd (let a : j ≤ i = l in omega arith)
-each-at p (suc n) j e i l h = go (p j) refl (λ d l'. each-at p n (suc j) d i l' (omega arith)) e (ℕ-discrete i j)
+pub all-at : (p : ℕ → Bool) (n j : ℕ) → all p n j ≡ true → (i : ℕ) → j ≤ i → i < j + n → p i ≡ true
+unfolding all
+all-at p zero j e i l h = absurd (let a : j ≤ i = l in omega arith)
+all-at p (suc n) j e i l h = go (p j) refl (λ d l'. all-at p n (suc j) d i l' (omega arith)) e (ℕ-discrete i j)
   where
-    go : (b : Bool) → p j ≡ b → (each p n (suc j) ≡ true → suc j ≤ i → p i ≡ true) → pick b (each p n (suc j)) false ≡ true → Dec (i ≡ j) → p i ≡ true
+    go : (b : Bool) → p j ≡ b → (all p n (suc j) ≡ true → suc j ≤ i → p i ≡ true) → pick b (all p n (suc j)) false ≡ true → Dec (i ≡ j) → p i ≡ true
     go true d ih e (yes q) = rw q d
     go true d ih e (no q) = ih e (omega arith)
     go false d ih e q = absurd (let z : _≡_ {A = Bool} false true = e in elim-false z)
@@ -76,36 +76,36 @@ each-at p (suc n) j e i l h = go (p j) refl (λ d l'. each-at p n (suc j) d i l'
         elim-false z = let w : _≡_ {A = ℕ} 0 1 = cc in omega arith
 
 -- and the other way: where it holds at all n numbers
-pub each-all : (p : ℕ → Bool) (n j : ℕ) → ((i : ℕ) → j ≤ i → i < j + n → p i ≡ true) → each p n j ≡ true
-unfolding each
-each-all p zero j h = refl
-each-all p (suc n) j h = rw (h j (omega arith) (omega arith)) (each-all p n (suc j) (λ i l k. h i (omega arith) (omega arith)))
+pub all-of : (p : ℕ → Bool) (n j : ℕ) → ((i : ℕ) → j ≤ i → i < j + n → p i ≡ true) → all p n j ≡ true
+unfolding all
+all-of p zero j h = refl
+all-of p (suc n) j h = rw (h j (omega arith) (omega arith)) (all-of p n (suc j) (λ i l k. h i (omega arith) (omega arith)))
 
 -- tests that agree at all n numbers
-pub each-same : (p q : ℕ → Bool) (n j : ℕ) → ((i : ℕ) → j ≤ i → i < j + n → p i ≡ q i) → each p n j ≡ each q n j
-unfolding each
-each-same p q zero j h = refl
-each-same p q (suc n) j h = rw (h j (omega arith) (omega arith), each-same p q n (suc j) (λ i l k. h i (omega arith) (omega arith)))
+pub all-same : (p q : ℕ → Bool) (n j : ℕ) → ((i : ℕ) → j ≤ i → i < j + n → p i ≡ q i) → all p n j ≡ all q n j
+unfolding all
+all-same p q zero j h = refl
+all-same p q (suc n) j h = rw (h j (omega arith) (omega arith), all-same p q n (suc j) (λ i l k. h i (omega arith) (omega arith)))
 
 -- what each numbered turn brings one further, all turns bring to the end
-pub turns-count : {S : Type 0} (P : ℕ → S → Type 0) (f : ℕ → S → S) (n j : ℕ) → ((i : ℕ) (s : S) → j ≤ i → i < j + n → P i s → P (suc i) (f i s)) → (s : S) → P j s → P (j + n) (turns f n j s)
-unfolding turns
-turns-count P f zero j h s p = let z : j + 0 ≡ j = omega arith in rw z p
-turns-count P f (suc n) j h s p =
+pub iterate-count : {S : Type 0} (P : ℕ → S → Type 0) (f : ℕ → S → S) (n j : ℕ) → ((i : ℕ) (s : S) → j ≤ i → i < j + n → P i s → P (suc i) (f i s)) → (s : S) → P j s → P (j + n) (iterate f n j s)
+unfolding iterate
+iterate-count P f zero j h s p = let z : j + 0 ≡ j = omega arith in rw z p
+iterate-count P f (suc n) j h s p =
     let z : j + suc n ≡ suc j + n = omega arith in
-    rw z (turns-count P f n (suc j) (λ i t l k. h i t (omega arith) (omega arith)) (f j s) (h j s (omega arith) (omega arith) p))
+    rw z (iterate-count P f n (suc j) (λ i t l k. h i t (omega arith) (omega arith)) (f j s) (h j s (omega arith) (omega arith) p))
 
 -- the same of tests as types: where one test implies another at all n numbers
-pub each-map : (p q : ℕ → Bool) (n j : ℕ) → ((i : ℕ) → j ≤ i → i < j + n → T (p i) → T (q i)) → T (each p n j) → T (each q n j)
-unfolding each
-each-map p q zero j h t = tt
-each-map p q (suc n) j h t = go (p j) (q j) (h j (omega arith) (omega arith)) (each-map p q n (suc j) (λ i l k. h i (omega arith) (omega arith))) t
+pub all-map : (p q : ℕ → Bool) (n j : ℕ) → ((i : ℕ) → j ≤ i → i < j + n → T (p i) → T (q i)) → T (all p n j) → T (all q n j)
+unfolding all
+all-map p q zero j h t = tt
+all-map p q (suc n) j h t = go (p j) (q j) (h j (omega arith) (omega arith)) (all-map p q n (suc j) (λ i l k. h i (omega arith) (omega arith))) t
   where
-    go : (b c : Bool) → (T b → T c) → (T (each p n (suc j)) → T (each q n (suc j))) → T (pick b (each p n (suc j)) false) → T (pick c (each q n (suc j)) false)
+    go : (b c : Bool) → (T b → T c) → (T (all p n (suc j)) → T (all q n (suc j))) → T (pick b (all p n (suc j)) false) → T (pick c (all q n (suc j)) false)
     go true true f ih t = ih t
     go true false f ih t = f tt
     go false c f ih t = absurd t
 
 -- and at one of them
-pub each-one : (p : ℕ → Bool) (n j : ℕ) → T (each p n j) → (i : ℕ) → j ≤ i → i < j + n → T (p i)
-each-one p n j t i l h = test-holds (p i) (each-at p n j (is-true (each p n j) t) i l h)
+pub all-one : (p : ℕ → Bool) (n j : ℕ) → T (all p n j) → (i : ℕ) → j ≤ i → i < j + n → T (p i)
+all-one p n j t i l h = test-holds (p i) (all-at p n j (is-true (all p n j) t) i l h)

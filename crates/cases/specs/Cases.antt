@@ -9,16 +9,16 @@ pick true a b = a
 pick false a b = b
 
 -- n turns, numbered from j on, in order
-unfoldable pub turns : {S : Type 0} → (ℕ → S → S) → ℕ → ℕ → S → S
-turns f zero j s = s
-turns f (suc n) j s = turns f n (suc j) (f j s)
+unfoldable pub iterate : {S : Type 0} → (ℕ → S → S) → ℕ → ℕ → S → S
+iterate f zero j s = s
+iterate f (suc n) j s = iterate f n (suc j) (f j s)
 
 -- a test holds at each of the n numbers from j on
-unfoldable pub each : (ℕ → Bool) → ℕ → ℕ → Bool
-each p zero j = true
-each p (suc n) j = pick (p j) (each p n (suc j)) false
+unfoldable pub all : (ℕ → Bool) → ℕ → ℕ → Bool
+all p zero j = true
+all p (suc n) j = pick (p j) (all p n (suc j)) false
 
 -- the values at the n numbers from j on, as a list
-abbrev pub listed : {A : Type 0} → (ℕ → A) → ℕ → ℕ → List A
-listed f zero j = []
-listed f (suc n) j = f j ∷ listed f n (suc j)
+abbrev pub tabulate : {A : Type 0} → (ℕ → A) → ℕ → ℕ → List A
+tabulate f zero j = []
+tabulate f (suc n) j = f j ∷ tabulate f n (suc j)

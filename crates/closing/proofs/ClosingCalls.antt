@@ -11,7 +11,7 @@ use native.Mathlib.Numerals.{add-one}
 use borrow.Author.Tests.{lt-ltb, le-ltb, not-true}
 use lib.Dec.{ltb}
 use lib.ListN.{getD, getElem?}
-use Rattle.cases.specs.Cases.{pick, listed}
+use Rattle.cases.specs.Cases.{pick, tabulate}
 use Rattle.rights.specs.Rights.{has}
 use Rattle.rights.proofs.Sets.{has-none}
 use Rattle.protection.specs.Limits.{names, rights}
@@ -92,7 +92,7 @@ module _ (p : Policy) (m : State) (n r s o : ℕ) (enters : Bool) where
 
   -- what is found from command i on
   pub from : ℕ → Option Call
-  from i = firstCall P n i (listed (commandNumber p) (p .commands - i) i)
+  from i = firstCall P n i (tabulate (commandNumber p) (p .commands - i) i)
 
   -- what is found in command i
   abbrev found : ℕ → Option Call
@@ -100,18 +100,18 @@ module _ (p : Policy) (m : State) (n r s o : ℕ) (enters : Bool) where
 
   from-start : from 0 ≡ firstTouching enters S m r s o n
   unfolding from firstTouching
-  from-start = ap (λ (k : ℕ). firstCall P n 0 (listed (commandNumber p) k 0)) (sub-zero (p .commands))
+  from-start = ap (λ (k : ℕ). firstCall P n 0 (tabulate (commandNumber p) k 0)) (sub-zero (p .commands))
 
   from-end : (i : ℕ) → p .commands ≤ i → from i ≡ none
   unfolding from
-  from-end i l = let z : p .commands - i ≡ 0 = omega arith in ap (λ (k : ℕ). firstCall P n i (listed (commandNumber p) k i)) z
+  from-end i l = let z : p .commands - i ≡ 0 = omega arith in ap (λ (k : ℕ). firstCall P n i (tabulate (commandNumber p) k i)) z
 
   from-more : (i : ℕ) → i < p .commands → from i ≡ orElse (found i) (from (i + 1))
   unfolding from touchingIn placeTouching
   from-more i l =
       let z : p .commands - i ≡ suc (p .commands - (i + 1)) = omega arith in
-      ap (λ (k : ℕ). firstCall P n i (listed (commandNumber p) k i)) z
-      ∙ ap (λ (y : ℕ). elim (ltb at (placesOf C n)) [ true ↦ some (callAt i C n at) | false ↦ firstCall P n y (listed (commandNumber p) (p .commands - (i + 1)) y) ]) (sym (add-one i))
+      ap (λ (k : ℕ). firstCall P n i (tabulate (commandNumber p) k i)) z
+      ∙ ap (λ (y : ℕ). elim (ltb at (placesOf C n)) [ true ↦ some (callAt i C n at) | false ↦ firstCall P n y (tabulate (commandNumber p) (p .commands - (i + 1)) y) ]) (sym (add-one i))
       ∙ ap (λ (a : ℕ). elim (ltb a (placesOf C n)) [ true ↦ some (callAt i C n a) | false ↦ later ]) (sym at-is)
       ∙ or-picked (ltb place (placesOf C n)) (callAt i C n place) later
     where
@@ -125,7 +125,7 @@ module _ (p : Policy) (m : State) (n r s o : ℕ) (enters : Bool) where
       place = firstIn (touchesAt enters m r s o C n) (placesOf C n) 0
 
       later : Option Call
-      later = firstCall P n (i + 1) (listed (commandNumber p) (p .commands - (i + 1)) (i + 1))
+      later = firstCall P n (i + 1) (tabulate (commandNumber p) (p .commands - (i + 1)) (i + 1))
 
       at-is : place ≡ at
       at-is = first-same (touchesAt enters m r s o C n) (λ q. P C (callAt i C n q)) (touching-is enters S m r s o i C (command-found p i l) n) (placesOf C n) 0

@@ -10,9 +10,9 @@ use borrow.Author.Tests.{not-true}
 use lib.Bits.{bitOr, bitAnd}
 use lib.Dec.{T, eqb, eqb→eq}
 use lib.ListN.{getD}
-use Rattle.cases.specs.Cases.{pick, each}
+use Rattle.cases.specs.Cases.{pick, all}
 use Rattle.cases.proofs.Bools.{and-left, and-right, or-cases, holds, is-true, is-false}
-use Rattle.cases.proofs.Loops.{each-at}
+use Rattle.cases.proofs.Loops.{all-at}
 use Rattle.rights.specs.Rights.{has}
 use Rattle.rights.proofs.Sets.{has-none}
 use Rattle.protection.specs.Limits.{names, rights}
@@ -30,7 +30,7 @@ use Rattle.commands.specs.declared.Command.{Command}
 use Rattle.commands.specs.declared.Operation.{Operation}
 use Rattle.commands.specs.declared.Operation.the-variants.{Enter, Delete, CreateSubject, CreateObject, DestroySubject, DestroyObject}
 use Rattle.queries.specs.Useful.{doable, namesOfPlace, Tried}
-use Rattle.queries.proofs.Goodness.{doable-holds, hold-each}
+use Rattle.queries.proofs.Goodness.{doable-holds, hold-all}
 use Rattle.queries.proofs.Shapes.{operation-is}
 use Rattle.policy.specs.Fits.{PolicyFits}
 use Rattle.policy.specs.declared.Policy.{Policy}
@@ -106,9 +106,9 @@ unheld : (c : Command) (m : State) (a : Actuals) (k q : ℕ) → Asks c k q
     → m .cell (onSide (k / 2) (a (firstOf c)) (a (secondOf c))) (onSide (k % 2) (a (firstOf c)) (a (secondOf c))) q ≡ false → doable (meaning c) m a ≡ false
 unheld c m a k q A e = is-false (doable (meaning c) m a) (λ t.
     let j = A .at in
-    let all : each (λ i. conditionHolds m a (conditionOf c i)) (c .conditions) 0 ≡ true =
-    sym (hold-each m a (conditionOf c) (c .conditions) 0) ∙ is-true (holdAll m a (meaning c .conditions)) (doable-holds (meaning c) m a t) in
-    let h : conditionHolds m a (conditionOf c j) ≡ true = each-at (λ i. conditionHolds m a (conditionOf c i)) (c .conditions) 0 all j (omega arith) (omega (arith, A .inside)) in
+    let whole : all (λ i. conditionHolds m a (conditionOf c i)) (c .conditions) 0 ≡ true =
+    sym (hold-all m a (conditionOf c) (c .conditions) 0) ∙ is-true (holdAll m a (meaning c .conditions)) (doable-holds (meaning c) m a t) in
+    let h : conditionHolds m a (conditionOf c j) ≡ true = all-at (λ i. conditionHolds m a (conditionOf c i)) (c .conditions) 0 whole j (omega arith) (omega (arith, A .inside)) in
     let held : T (m .cell (a (conditionOf c j .subject)) (a (conditionOf c j .object)) (conditionOf c j .right)) =
     and-right (subjectIn m (a (conditionOf c j .subject)) && objectIn m (a (conditionOf c j .object))) (m .cell (a (conditionOf c j .subject)) (a (conditionOf c j .object)) (conditionOf c j .right)) (holds (conditionHolds m a (conditionOf c j)) h) in
     let gone : m .cell (a (conditionOf c j .subject)) (a (conditionOf c j .object)) (conditionOf c j .right) ≡ false =

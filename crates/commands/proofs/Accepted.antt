@@ -6,7 +6,7 @@ use mathlib.Core.List.{List}
 use borrow.Author.Tests.{ltb-false, eqb-true}
 use lib.Dec.{eqb, ltb}
 use lib.ListN.{length}
-use Rattle.cases.specs.Cases.{each}
+use Rattle.cases.specs.Cases.{all}
 use Rattle.protection.specs.Limits.{parameters, conditions, operations}
 use Rattle.layout.specs.File.{byte}
 use Rattle.layout.proofs.Accepted.{passed, held}
@@ -19,8 +19,8 @@ pub record CommandFits (g : ℕ) (p : List ℕ) : Type 0 where
   pub some-operation : 1 ≤ byte p 2
   pub few-operations : byte p 2 ≤ operations
   pub size : length p ≡ 3 + 3 * byte p 1 + 4 * byte p 2
-  pub conditions-fit : each (conditionFitsAt g p) (byte p 1) 0 ≡ true
-  pub operations-fit : each (operationFitsAt g p (3 + 3 * byte p 1)) (byte p 2) 0 ≡ true
+  pub conditions-fit : all (conditionFitsAt g p) (byte p 1) 0 ≡ true
+  pub operations-fit : all (operationFitsAt g p (3 + 3 * byte p 1)) (byte p 2) 0 ≡ true
 
 pub command-accepted : (g : ℕ) (p : List ℕ) → commandRefusal g p ≡ 0 → CommandFits g p
 unfolding commandRefusal
@@ -32,8 +32,8 @@ command-accepted g p e =
     let t5 = passed (ltb (byte p 2) 1) 7 _ (t4 .1) in
     let t6 = passed (ltb operations (byte p 2)) 7 _ (t5 .1) in
     let t7 = held (eqb (length p) (3 + 3 * byte p 1 + 4 * byte p 2)) 4 _ (t6 .1) in
-    let t8 = held (each (conditionFitsAt g p) (byte p 1) 0) 8 _ (t7 .1) in
-    let t9 = held (each (operationFitsAt g p (3 + 3 * byte p 1)) (byte p 2) 0) 8 _ (t8 .1) in
+    let t8 = held (all (conditionFitsAt g p) (byte p 1) 0) 8 _ (t7 .1) in
+    let t9 = held (all (operationFitsAt g p (3 + 3 * byte p 1)) (byte p 2) 0) 8 _ (t8 .1) in
     record {
       some-parameter = ltb-false (byte p 0) 1 (t2 .0);
       few-parameters = ltb-false parameters (byte p 0) (t3 .0);

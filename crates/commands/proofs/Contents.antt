@@ -11,7 +11,7 @@ use lib.ListN.{length, take, drop, replicate, length-drop}
 use lib.Seq.{take-all, take-length, length-take-le}
 use Rattle.layout.specs.File.{byte}
 use Rattle.commands.specs.Refusals.{commandRefusal}
-use Rattle.commands.specs.Contents.{filled, noCommand, commandOf, commandRead}
+use Rattle.commands.specs.Contents.{padded, noCommand, commandOf, commandRead}
 use Rattle.commands.specs.declared.Command.{Command}
 use Rattle.commands.specs.declared.CommandRead.{CommandRead}
 use Rattle.commands.proofs.Accepted.{command-accepted}
@@ -22,7 +22,7 @@ drop-replicate (suc n) zero h = absurd (not-suc-le-zero h)
 drop-replicate (suc n) (suc m) h = let e : suc m - suc n ≡ m - n = omega arith in rw e (drop-replicate n m (omega arith))
 
 -- a list copied over the front of zeros
-pub copied : (size : ℕ) (l x : List ℕ) → length l ≤ size → x ≡ take (length l) l ++ drop (length l) (replicate size 0) → x ≡ filled size l
+pub copied : (size : ℕ) (l x : List ℕ) → length l ≤ size → x ≡ take (length l) l ++ drop (length l) (replicate size 0) → x ≡ padded size l
 copied size l x h e = e ∙ ap₂ (λ (a b : List ℕ). a ++ b) (take-length l) (drop-replicate (length l) size h)
 
 pub command-is : (p x y : List ℕ) → byte p 1 ≤ 4 → byte p 2 ≤ 6 → length p ≡ 3 + 3 * byte p 1 + 4 * byte p 2
@@ -36,10 +36,10 @@ command-is p x y hc hm e dx dy =
     let n : length (take (3 + 3 * byte p 1 - 3) (drop 3 p)) ≡ 3 + 3 * byte p 1 - 3 = length-take-le (3 + 3 * byte p 1 - 3) (drop 3 p) (simp length-drop (omega arith)) in
     let k : length (take (length p - (3 + 3 * byte p 1)) (drop (3 + 3 * byte p 1) p)) ≡ length p - (3 + 3 * byte p 1) =
     length-take-le (length p - (3 + 3 * byte p 1)) (drop (3 + 3 * byte p 1) p) (simp length-drop (omega arith)) in
-    let ex : x ≡ filled 12 (take (3 * byte p 1) (drop 3 p)) =
-    copied 12 (take (3 + 3 * byte p 1 - 3) (drop 3 p)) x (omega arith) dx ∙ ap (λ (z : ℕ). filled 12 (take z (drop 3 p))) u in
-    let ey : y ≡ filled 24 (take (4 * byte p 2) (drop (3 + 3 * byte p 1) p)) =
-    copied 24 (take (length p - (3 + 3 * byte p 1)) (drop (3 + 3 * byte p 1) p)) y (omega arith) dy ∙ ap (λ (z : ℕ). filled 24 (take z (drop (3 + 3 * byte p 1) p))) v in
+    let ex : x ≡ padded 12 (take (3 * byte p 1) (drop 3 p)) =
+    copied 12 (take (3 + 3 * byte p 1 - 3) (drop 3 p)) x (omega arith) dx ∙ ap (λ (z : ℕ). padded 12 (take z (drop 3 p))) u in
+    let ey : y ≡ padded 24 (take (4 * byte p 2) (drop (3 + 3 * byte p 1) p)) =
+    copied 24 (take (length p - (3 + 3 * byte p 1)) (drop (3 + 3 * byte p 1) p)) y (omega arith) dy ∙ ap (λ (z : ℕ). padded 24 (take z (drop (3 + 3 * byte p 1) p))) v in
     rw (ex, ey)
 
 module _ (g : ℕ) (p : List ℕ) (r : ℕ) (d : r ≡ commandRefusal g p) where

@@ -8,11 +8,11 @@ use borrow.Author.Tests.{ltb-true, ltb-false, eqb-true}
 use lib.Dec.{eqb, ltb}
 use lib.ListN.{length, getD, take, drop, replicate, length-drop, List·getD-append}
 use lib.Seq.{length-take-le, getD-take, getD-drop}
-use Rattle.cases.specs.Cases.{pick, each}
-use Rattle.cases.proofs.Loops.{each-at}
+use Rattle.cases.specs.Cases.{pick, all}
+use Rattle.cases.proofs.Loops.{all-at}
 use Rattle.layout.specs.File.{byte}
 use Rattle.commands.specs.Refusals.{conditionFits, conditionFitsAt, operationFits, operationFitsAt, commandRefusal}
-use Rattle.commands.specs.Contents.{filled, commandOf}
+use Rattle.commands.specs.Contents.{padded, commandOf}
 use Rattle.commands.specs.Fits.{Fits}
 use Rattle.commands.proofs.Accepted.{CommandFits}
 
@@ -55,7 +55,7 @@ module _ (g : ℕ) (p : List ℕ) (i : ℕ) where
           (omega arith, first, omega arith)
 
 -- ---- bytes of the section in the command's arrays
-part-at : (p : List ℕ) (size from n i : ℕ) → from + n ≤ length p → i < n → getD (filled size (take n (drop from p))) i 0 ≡ byte p (from + i)
+part-at : (p : List ℕ) (size from n i : ℕ) → from + n ≤ length p → i < n → getD (padded size (take n (drop from p))) i 0 ≡ byte p (from + i)
 part-at p size from n i h l =
     let k : length (take n (drop from p)) ≡ n = length-take-le n (drop from p) (simp length-drop (omega arith)) in
     List·getD-append (take n (drop from p)) (replicate (size - length (take n (drop from p))) 0) 0 i (omega arith)
@@ -71,14 +71,14 @@ module _ (g : ℕ) (p : List ℕ) (A : CommandFits g p) where
   in-operation i l = part-at p 24 (3 + 3 * byte p 1) (4 * byte p 2) i (omega (arith, A .size)) l
 
   condition-at : (j : ℕ) → j < byte p 1 → (byte p (3 + 3 * j) < g) × (byte p (3 + 3 * j + 1) < byte p 0) × (byte p (3 + 3 * j + 2) < byte p 0)
-  condition-at j l = condition-facts g p (3 + 3 * j) (each-at (conditionFitsAt g p) (byte p 1) 0 (A .conditions-fit) j (omega arith) (omega arith))
+  condition-at j l = condition-facts g p (3 + 3 * j) (all-at (conditionFitsAt g p) (byte p 1) 0 (A .conditions-fit) j (omega arith) (omega arith))
 
   module _ (lg : 1 ≤ g) where
     abbrev at : ℕ → ℕ
     at j = 3 + 3 * byte p 1 + 4 * j
 
     operation-at : (j : ℕ) → j < byte p 2 → (byte p (at j + 1) < g) × (byte p (at j + 2) < byte p 0) × (byte p (at j + 3) < byte p 0)
-    operation-at j l = operation-facts g p (at j) lg (each-at (operationFitsAt g p (3 + 3 * byte p 1)) (byte p 2) 0 (A .operations-fit) j (omega arith) (omega arith))
+    operation-at j l = operation-facts g p (at j) lg (all-at (operationFitsAt g p (3 + 3 * byte p 1)) (byte p 2) 0 (A .operations-fit) j (omega arith) (omega arith))
 
     pub command-fits : Fits g (commandOf p)
     unfolding commandOf

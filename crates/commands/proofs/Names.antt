@@ -6,38 +6,38 @@ use mathlib.Core.List.{List}
 use native.Mathlib.Omega.{arith}
 use lib.Dec.{eqb}
 use lib.ListN.{getD}
-use Rattle.cases.specs.Cases.{listed}
+use Rattle.cases.specs.Cases.{tabulate}
 use Rattle.cases.proofs.Lists.{any-found, any-next}
 use Rattle.protection.specs.Command.{Condition, Operation, inConditions, inOperation, inOperations}
 use Rattle.commands.specs.Contents.{conditionOf, operationAt, operationOf, modelOf}
 use Rattle.commands.specs.declared.Command.{Command}
 use Rattle.commands.specs.declared.Operation.{Operation as CodeOperation}
 
-module _ (c : Command) (b n j : ℕ) (all r : Bool) where
+module _ (c : Command) (b n j : ℕ) (whole r : Bool) where
   abbrev here : Condition → Bool
   here x = eqb b (x .subject) || eqb b (x .object)
 
   pub condition-found : r ≡ eqb b (getD (c .condition) (3 * j + 1) 0) || eqb b (getD (c .condition) (3 * j + 2) 0) → r ≡ true → j < n
-      → inConditions b (listed (conditionOf c) (n - j) j) ≡ all → true ≡ all
-  condition-found d t h e = any-found (inConditions b) here (λ x xs. refl) (conditionOf c) n j all r d t h e
+      → inConditions b (tabulate (conditionOf c) (n - j) j) ≡ whole → true ≡ whole
+  condition-found d t h e = any-found (inConditions b) here (λ x xs. refl) (conditionOf c) n j whole r d t h e
 
   pub condition-next : r ≡ eqb b (getD (c .condition) (3 * j + 1) 0) || eqb b (getD (c .condition) (3 * j + 2) 0) → r ≡ false → j < n
-      → inConditions b (listed (conditionOf c) (n - j) j) ≡ all → inConditions b (listed (conditionOf c) (n - (j + 1)) (j + 1)) ≡ all
-  condition-next d t h e = any-next (inConditions b) here (λ x xs. refl) (conditionOf c) n j all r d t h e
+      → inConditions b (tabulate (conditionOf c) (n - j) j) ≡ whole → inConditions b (tabulate (conditionOf c) (n - (j + 1)) (j + 1)) ≡ whole
+  condition-next d t h e = any-next (inConditions b) here (λ x xs. refl) (conditionOf c) n j whole r d t h e
 
   pub operation-found : (op : CodeOperation) → op ≡ operationAt c j → r ≡ inOperation b (modelOf op) → r ≡ true → j < n
-      → inOperations b (listed (operationOf c) (n - j) j) ≡ all → true ≡ all
-  operation-found op o d t h e = any-found (inOperations b) (inOperation b) (λ x xs. refl) (operationOf c) n j all r (d ∙ ap (λ (x : CodeOperation). inOperation b (modelOf x)) o) t h e
+      → inOperations b (tabulate (operationOf c) (n - j) j) ≡ whole → true ≡ whole
+  operation-found op o d t h e = any-found (inOperations b) (inOperation b) (λ x xs. refl) (operationOf c) n j whole r (d ∙ ap (λ (x : CodeOperation). inOperation b (modelOf x)) o) t h e
 
   pub operation-next : (op : CodeOperation) → op ≡ operationAt c j → r ≡ inOperation b (modelOf op) → r ≡ false → j < n
-      → inOperations b (listed (operationOf c) (n - j) j) ≡ all → inOperations b (listed (operationOf c) (n - (j + 1)) (j + 1)) ≡ all
-  operation-next op o d t h e = any-next (inOperations b) (inOperation b) (λ x xs. refl) (operationOf c) n j all r (d ∙ ap (λ (x : CodeOperation). inOperation b (modelOf x)) o) t h e
+      → inOperations b (tabulate (operationOf c) (n - j) j) ≡ whole → inOperations b (tabulate (operationOf c) (n - (j + 1)) (j + 1)) ≡ whole
+  operation-next op o d t h e = any-next (inOperations b) (inOperation b) (λ x xs. refl) (operationOf c) n j whole r (d ∙ ap (λ (x : CodeOperation). inOperation b (modelOf x)) o) t h e
 
-pub conditions-end : (c : Command) (b n j : ℕ) (all : Bool) → n ≤ j → inConditions b (listed (conditionOf c) (n - j) j) ≡ all → false ≡ all
-conditions-end c b n j all h e = let z : n - j ≡ 0 = omega arith in rw z at e
+pub conditions-end : (c : Command) (b n j : ℕ) (whole : Bool) → n ≤ j → inConditions b (tabulate (conditionOf c) (n - j) j) ≡ whole → false ≡ whole
+conditions-end c b n j whole h e = let z : n - j ≡ 0 = omega arith in rw z at e
 
-pub operations-end : (c : Command) (b n j : ℕ) (all : Bool) → n ≤ j → inOperations b (listed (operationOf c) (n - j) j) ≡ all → false ≡ all
-operations-end c b n j all h e = let z : n - j ≡ 0 = omega arith in rw z at e
+pub operations-end : (c : Command) (b n j : ℕ) (whole : Bool) → n ≤ j → inOperations b (tabulate (operationOf c) (n - j) j) ≡ whole → false ≡ whole
+operations-end c b n j whole h e = let z : n - j ≡ 0 = omega arith in rw z at e
 
 -- one of two answers
 pub either-is : (x y a b : Bool) → x ≡ a → y ≡ b → x || y ≡ a || b

@@ -3,7 +3,7 @@ use Prim.Native.Nat.{ℕ, _+_, _*_, _-_}
 use mathlib.Core.List.{List, [], _++_}
 use lib.ListN.{length, getD, take, drop, replicate}
 use lib.Dec.{eqb}
-use Rattle.cases.specs.Cases.{pick, listed}
+use Rattle.cases.specs.Cases.{pick, tabulate}
 use Rattle.protection.specs.Limits.{conditions, operations}
 use Rattle.protection.specs.Command.{Condition, Operation, enter, delete, createSubject, createObject, destroySubject, destroyObject, Command as ModelCommand}
 use Rattle.layout.specs.File.{byte}
@@ -14,8 +14,8 @@ use Rattle.commands.specs.declared.Operation.{Operation as CodeOperation
 use Rattle.commands.specs.declared.Operation.the-variants.{Enter, Delete, CreateSubject, CreateObject, DestroySubject, DestroyObject}
 
 -- the bytes, filled up with 0
-abbrev pub filled : ℕ → List ℕ → List ℕ
-filled n l = l ++ replicate (n - length l) 0
+abbrev pub padded : ℕ → List ℕ → List ℕ
+padded n l = l ++ replicate (n - length l) 0
 
 abbrev pub noCommand : Command
 noCommand = record { parameters = 0; conditions = 0; operations = 0; condition = replicate (3 * conditions) 0; operation = replicate (4 * operations) 0 }
@@ -31,8 +31,8 @@ commandOf p =
       parameters = byte p 0;
       conditions = byte p 1;
       operations = byte p 2;
-      condition = filled (3 * conditions) (take (3 * byte p 1) (drop 3 p));
-      operation = filled (4 * operations) (take (4 * byte p 2) (drop (3 + 3 * byte p 1) p));
+      condition = padded (3 * conditions) (take (3 * byte p 1) (drop 3 p));
+      operation = padded (4 * operations) (take (4 * byte p 2) (drop (3 + 3 * byte p 1) p));
     }
 
 unfoldable pub commandRead : ℕ → List ℕ → CommandRead
@@ -70,4 +70,4 @@ abbrev pub operationOf : Command → ℕ → Operation
 operationOf c j = modelOf (operationAt c j)
 
 abbrev pub meaning : Command → ModelCommand
-meaning c = record { parameters = c .parameters; conditions = listed (conditionOf c) (c .conditions) 0; operations = listed (operationOf c) (c .operations) 0 }
+meaning c = record { parameters = c .parameters; conditions = tabulate (conditionOf c) (c .conditions) 0; operations = tabulate (operationOf c) (c .operations) 0 }

@@ -4,7 +4,7 @@ use mathlib.Core.Bool.{Bool, false}
 use mathlib.Core.List.{List}
 use lib.ListN.{length}
 use lib.Dec.{ltb, eqb}
-use Rattle.cases.specs.Cases.{pick, each}
+use Rattle.cases.specs.Cases.{pick, all}
 use Rattle.protection.specs.Limits.{parameters, conditions, operations}
 use Rattle.layout.specs.File.{byte}
 
@@ -41,6 +41,6 @@ commandRefusal g p =
     (pick (ltb (byte p 2) 1) 8
     (pick (ltb operations (byte p 2)) 8
     (pick (eqb (length p) (3 + 3 * byte p 1 + 4 * byte p 2))
-    (pick (each (conditionFitsAt g p) (byte p 1) 0)
-    (pick (each (operationFitsAt g p (3 + 3 * byte p 1)) (byte p 2) 0) 0
+    (pick (all (conditionFitsAt g p) (byte p 1) 0)
+    (pick (all (operationFitsAt g p (3 + 3 * byte p 1)) (byte p 2) 0) 0
     9) 9) 5))))))

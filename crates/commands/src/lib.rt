@@ -3,12 +3,12 @@ ghost use mathlib.Core.Path.{_≡_};
 ghost use Prim.Native.Nat.{_+_, _*_, _≤_, _<_};
 ghost use lib.ListN.{length, take, drop};
 ghost use Rattle.protection.specs.Limits.{conditions, operations};
-ghost use Rattle.cases.specs.Cases.{each, listed};
+ghost use Rattle.cases.specs.Cases.{all, tabulate};
 ghost use mathlib.Core.Bool.{_||_};
 ghost use Rattle.protection.specs.Command.{inConditions, inOperation, inOperations, named};
 ghost use Rattle.layout.specs.File.{byte};
 ghost use Rattle.commands.specs.Refusals.{conditionFits, conditionFitsAt, operationFits, operationFitsAt, commandRefusal};
-ghost use Rattle.commands.specs.Contents.{filled, noCommand, commandOf, commandRead, conditionOf, operationAt, operationOf, modelOf, meaning};
+ghost use Rattle.commands.specs.Contents.{padded, noCommand, commandOf, commandRead, conditionOf, operationAt, operationOf, modelOf, meaning};
 
 // How many parameters, conditions and operations there are, and their bytes as in the file: 3 for a condition, 4 for an operation.
 pub struct Command {
@@ -65,7 +65,7 @@ fn condition_fits(part: &[u8], g: u8, at: usize) -> bool
 
 fn conditions_fit(part: &[u8], g: u8, count: usize) -> bool
     requires { ⌜ (count ≤ conditions) × (3 + 3 * count ≤ length (now part)) ⌝ }
-    ensures { λ r. ⌜ r ≡ each (conditionFitsAt g (now (part .entry))) count 0 ⌝ }
+    ensures { λ r. ⌜ r ≡ all (conditionFitsAt g (now (part .entry))) count 0 ⌝ }
 {
     for j in 0..count {
         if !condition_fits(part, g, 3 + 3 * j) {
@@ -105,7 +105,7 @@ fn operation_fits(part: &[u8], g: u8, at: usize) -> bool
 
 fn operations_fit(part: &[u8], g: u8, from: usize, count: usize) -> bool
     requires { ⌜ (count ≤ operations) × (from + 4 * count ≤ length (now part)) ⌝ }
-    ensures { λ r. ⌜ r ≡ each (operationFitsAt g (now (part .entry)) from) count 0 ⌝ }
+    ensures { λ r. ⌜ r ≡ all (operationFitsAt g (now (part .entry)) from) count 0 ⌝ }
 {
     for j in 0..count {
         if !operation_fits(part, g, from + 4 * j) {
@@ -255,7 +255,7 @@ fn operation_names(operation: Operation, b: u8) -> bool
 impl Command {
     fn in_conditions(self, b: u8) -> bool
         requires { ⌜ self .conditions ≤ conditions ⌝ }
-        ensures { λ r. ⌜ r ≡ inConditions b (listed (conditionOf self) (self .conditions) 0) ⌝ }
+        ensures { λ r. ⌜ r ≡ inConditions b (tabulate (conditionOf self) (self .conditions) 0) ⌝ }
     {
         let n = self.conditions as usize;
         for j in 0..n {
@@ -268,7 +268,7 @@ impl Command {
 
     fn in_operations(self, b: u8) -> bool
         requires { ⌜ self .operations ≤ operations ⌝ }
-        ensures { λ r. ⌜ r ≡ inOperations b (listed (operationOf self) (self .operations) 0) ⌝ }
+        ensures { λ r. ⌜ r ≡ inOperations b (tabulate (operationOf self) (self .operations) 0) ⌝ }
     {
         let n = self.operations as usize;
         for j in 0..n {

@@ -1,5 +1,5 @@
 -- What the cases are computed by: whoever unfolds `computed` unfolds all that its line names. Assumes nothing.
-use Rattle.cases.specs.Cases.{turns, each}
+use Rattle.cases.specs.Cases.{iterate, all}
 use Rattle.rights.specs.Rights.{number}
 use Rattle.protection.specs.Size.{count}
 use Rattle.protection.specs.Judge.{lowestAbsent, rounds, judge}
@@ -16,5 +16,5 @@ use Rattle.safety.specs.Judgement.{callerRefusal}
 use Rattle.listing.specs.Listing.{digits}
 
 unfoldable pub computed : Unit {0}
-unfolding turns each number lowestAbsent rounds count judge kindsOf cellsOf cellFits matrixRefusal startOf headerRefusal pairsRefusal sizesRefusal conditionFits operationFits commandRefusal commandOf commandsRefusal commandTable policyOf written replayFrom callerRefusal digits
+unfolding iterate all number lowestAbsent rounds count judge kindsOf cellsOf cellFits matrixRefusal startOf headerRefusal pairsRefusal sizesRefusal conditionFits operationFits commandRefusal commandOf commandsRefusal commandTable policyOf written replayFrom callerRefusal digits
 computed = tt

@@ -8,8 +8,8 @@ use mathlib.Core.List.{List, [], _∷_}
 use lib.Dec.{eqb, ltb}
 use lib.ListN.{getD}
 use borrow.Author.Tests.{eqb-true, lt-ltb, le-ltb}
-use Rattle.cases.specs.Cases.{pick, each}
-use Rattle.cases.proofs.Loops.{each-all}
+use Rattle.cases.specs.Cases.{pick, all}
+use Rattle.cases.proofs.Loops.{all-of}
 use Rattle.rights.specs.Rights.{within}
 use Rattle.protection.specs.Limits.{names}
 use Rattle.matrix.specs.Bytes.{inside}
@@ -35,14 +35,14 @@ module _ (p : ℕ → ℕ → Bool) (q : ℕ → Bool) where
   further : (j i x : ℕ) → q (j + suc i) ≡ p x (j + suc i) → q (suc j + i) ≡ p x (suc j + i)
   further j i x h = subst (λ k. q k ≡ p x k) (add-suc j i ∙ sym (suc-add j i)) h
 
-  each-is-walk : (n : ℕ) (l : List ℕ) (j : ℕ) → Agree l j → each q n j ≡ walk p n l j
-  unfolding each
-  each-is-walk zero l j h = refl
-  each-is-walk (suc n) [] j h =
-      ap (λ b. pick b (each q n (suc j)) false) (here [] j h) ∙ ap (λ b. pick (p 0 j) b false) (each-is-walk n [] (suc j) (λ i. further j i 0 (h (suc i))))
-  each-is-walk (suc n) (x ∷ l) j h =
-      ap (λ b. pick b (each q n (suc j)) false) (here (x ∷ l) j h)
-      ∙ ap (λ b. pick (p x j) b false) (each-is-walk n l (suc j) (λ i. further j i (getD l i 0) (h (suc i))))
+  all-is-walk : (n : ℕ) (l : List ℕ) (j : ℕ) → Agree l j → all q n j ≡ walk p n l j
+  unfolding all
+  all-is-walk zero l j h = refl
+  all-is-walk (suc n) [] j h =
+      ap (λ b. pick b (all q n (suc j)) false) (here [] j h) ∙ ap (λ b. pick (p 0 j) b false) (all-is-walk n [] (suc j) (λ i. further j i 0 (h (suc i))))
+  all-is-walk (suc n) (x ∷ l) j h =
+      ap (λ b. pick b (all q n (suc j)) false) (here (x ∷ l) j h)
+      ∙ ap (λ b. pick (p x j) b false) (all-is-walk n l (suc j) (λ i. further j i (getD l i 0) (h (suc i))))
 
 -- ---- the cells
 none-within : (g : ℕ) → within 0 g ≡ true
@@ -61,22 +61,22 @@ byte-fits g b x = go (eqb x 0) b refl
     go false true e = refl
     go false false e = refl
 
-cells-walked : (g n : ℕ) (ks cs : List ℕ) → each (cellFits g ks cs) n 0 ≡ walk (fits g ks) n cs 0
+cells-walked : (g n : ℕ) (ks cs : List ℕ) → all (cellFits g ks cs) n 0 ≡ walk (fits g ks) n cs 0
 unfolding cellFits
 cells-walked g n ks cs =
-    each-is-walk (fits g ks) (cellFits g ks cs) n cs 0
+    all-is-walk (fits g ks) (cellFits g ks cs) n cs 0
     (λ i. byte-fits g (inside ks ((0 + i) / names) ((0 + i) % names)) (getD cs (0 + i) 0) ∙ ap (λ k. fits g ks (getD cs k 0) (0 + i)) (zero-add i))
 
 -- ---- the matrix: what the definition says hangs on the cells only by whether they fit
 -- no cell set: they fit
-no-cells : (g n : ℕ) (ks : List ℕ) → each (cellFits g ks []) n 0 ≡ true
+no-cells : (g n : ℕ) (ks : List ℕ) → all (cellFits g ks []) n 0 ≡ true
 unfolding cellFits
-no-cells g n ks = each-all (cellFits g ks []) n 0 (λ i _ _. byte-fits g (inside ks (i / names) (i % names)) 0)
+no-cells g n ks = all-of (cellFits g ks []) n 0 (λ i _ _. byte-fits g (inside ks (i / names) (i % names)) 0)
 
 -- a first cell with right g: they do not
-cell-over : (g n : ℕ) (ks : List ℕ) → each (cellFits g ks (2 ^ g ∷ [])) (suc n) 0 ≡ false
-unfolding each cellFits
-cell-over g n ks = ap (λ (b : Bool). pick (pick b (pick (inside ks 0 0) true (eqb (2 ^ g) 0)) false) (each (cellFits g ks (2 ^ g ∷ [])) n 1) false) (le-ltb (2 ^ g) (2 ^ g) (omega arith))
+cell-over : (g n : ℕ) (ks : List ℕ) → all (cellFits g ks (2 ^ g ∷ [])) (suc n) 0 ≡ false
+unfolding all cellFits
+cell-over g n ks = ap (λ (b : Bool). pick (pick b (pick (inside ks 0 0) true (eqb (2 ^ g) 0)) false) (all (cellFits g ks (2 ^ g ∷ [])) n 1) false) (le-ltb (2 ^ g) (2 ^ g) (omega arith))
 
 abbrev pub walkedMatrix : ℕ → List ℕ → List ℕ → ℕ
 walkedMatrix g ks cs = pick (walk (fits g ks) (names * names) cs 0) (matrixRefusal g ks []) (matrixRefusal g ks (2 ^ g ∷ []))
@@ -85,7 +85,7 @@ matrix-walked : (g : ℕ) (ks cs : List ℕ) → walkedMatrix g ks cs ≡ matrix
 unfolding matrixRefusal
 matrix-walked g ks cs = go (walk (fits g ks) (names * names) cs 0) (cells-walked g (names * names) ks cs)
   where
-    go : (b : Bool) → each (cellFits g ks cs) (names * names) 0 ≡ b → pick b (matrixRefusal g ks []) (matrixRefusal g ks (2 ^ g ∷ [])) ≡ matrixRefusal g ks cs
+    go : (b : Bool) → all (cellFits g ks cs) (names * names) 0 ≡ b → pick b (matrixRefusal g ks []) (matrixRefusal g ks (2 ^ g ∷ [])) ≡ matrixRefusal g ks cs
     go true e = rw (e, no-cells g (names * names) ks)
     go false e = rw (e, cell-over g 1023 ks)
 

@@ -5,7 +5,7 @@ use Prim.Native.Char.{code}
 use Prim.Native.String.{String, len, charAt}
 use mathlib.Core.List.{List, [], _∷_, _++_}
 use lib.ListN.{length, getD, set, replicate}
-use Rattle.cases.specs.Cases.{listed}
+use Rattle.cases.specs.Cases.{tabulate}
 use Rattle.protection.specs.Command.{Call}
 
 -- "16-bit values low byte first"
@@ -119,7 +119,7 @@ trace (x ∷ xs) = x .command ∷ x .a0 ∷ x .a1 ∷ x .a2 ∷ x .a3 ∷ trace 
 
 -- the bytes of a lent buffer from place j on to place n, each of them its place's number modulo 256
 abbrev pub buffer : ℕ → ℕ → List ℕ
-buffer j n = listed (λ i. i % 256) (n - j) j
+buffer j n = tabulate (λ i. i % 256) (n - j) j
 
 -- that buffer of n bytes with the steps at its front: "They fill the front of the buffer, under safe too; the rest keeps its bytes."
 abbrev pub holding : List Call → ℕ → List ℕ
@@ -127,4 +127,4 @@ holding steps n = trace steps ++ buffer (5 * length steps) n
 
 -- a printed text's bytes, in ASCII
 abbrev pub text : String → List ℕ
-text s = listed (λ i. code (charAt s i)) (len s) 0
+text s = tabulate (λ i. code (charAt s i)) (len s) 0

@@ -90,7 +90,7 @@ createCases =
     -- "A created blank gets only the name that is lowest absent when the judge reaches the rule in that round"
     row "judge: create object, the lowest absent name" (judgeAnswers (gap (onName (createObject 0) ∷ [])) 0 100 (Safe 1) (call 0 (1 ∷ []) ∷ [])) ∷
     -- "a create object if the judge has done no create object yet; a create subject likewise, each counted by itself"
-    row "judge: one create of each kind, in one round"
+    row "judge: one create of all kind, in one round"
     (judgeAnswers
     (gap (onName (createSubject 0) ∷ onName (createSubject 0) ∷ onName (createObject 0) ∷ onName (createObject 0) ∷ entering 1 ∷ []))
     0

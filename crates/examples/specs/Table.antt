@@ -78,7 +78,7 @@ required =
     "7: an absent name's column" ∷
     "5: an object's column" ∷
     "7: the last cell" ∷
-    "accepted: g 8, all rights in a cell" ∷
+    "accepted: g 8, whole rights in a cell" ∷
     "5: a rule of 2 bytes, before 8" ∷
     "8: no blanks, before 5" ∷
     "8: 5 blanks, before 5" ∷
@@ -184,7 +184,7 @@ required =
     "judge: safe, one step" ∷
     "desk: safe, one step" ∷
     "judge: create object, the lowest absent name" ∷
-    "judge: one create of each kind, in one round" ∷
+    "judge: one create of all kind, in one round" ∷
     "judge: a created object's column" ∷
     "judge: a created blank in a condition" ∷
     "judge: deletes and destroys are passed by" ∷

@@ -5,8 +5,8 @@ use mathlib.Core.Bool.{Bool, true, false, not, _&&_, _||_}
 use mathlib.Core.List.{List, []}
 use native.Mathlib.Omega.{arith}
 use lib.ListN.{getD}
-use Rattle.cases.specs.Cases.{listed}
-use Rattle.cases.proofs.Lists.{all-stop, all-next}
+use Rattle.cases.specs.Cases.{tabulate}
+use Rattle.cases.proofs.Lists.{every-stop, every-next}
 use Rattle.rights.specs.Rights.{has}
 use Rattle.protection.specs.State.{isObject}
 use Rattle.protection.specs.Command.{Command as ModelCommand, named, valuesOf}
@@ -37,14 +37,14 @@ condition-is ks cs a c j x y r ex ey d =
     d ∙ sym (gated ks cs x y (getD (c .condition) (3 * j) 0))
     ∙ ap₂ (λ (s o : ℕ). inside ks s o && rightsIn ks cs s o (getD (c .condition) (3 * j) 0)) ex ey
 
-module _ (ks cs a : List ℕ) (c : Command) (n j : ℕ) (all r : Bool) where
+module _ (ks cs a : List ℕ) (c : Command) (n j : ℕ) (whole r : Bool) where
   pub condition-stop : r ≡ holds (view ks cs) (valuesOf a) (conditionOf c j) → not r ≡ true → j < n
-      → holdAll (view ks cs) (valuesOf a) (listed (conditionOf c) (n - j) j) ≡ all → false ≡ all
-  condition-stop = all-stop (holdAll (view ks cs) (valuesOf a)) (holds (view ks cs) (valuesOf a)) (λ x xs. refl) (conditionOf c) n j all r
+      → holdAll (view ks cs) (valuesOf a) (tabulate (conditionOf c) (n - j) j) ≡ whole → false ≡ whole
+  condition-stop = every-stop (holdAll (view ks cs) (valuesOf a)) (holds (view ks cs) (valuesOf a)) (λ x xs. refl) (conditionOf c) n j whole r
 
   pub condition-more : r ≡ holds (view ks cs) (valuesOf a) (conditionOf c j) → not r ≡ false → j < n
-      → holdAll (view ks cs) (valuesOf a) (listed (conditionOf c) (n - j) j) ≡ all → holdAll (view ks cs) (valuesOf a) (listed (conditionOf c) (n - (j + 1)) (j + 1)) ≡ all
-  condition-more = all-next (holdAll (view ks cs) (valuesOf a)) (holds (view ks cs) (valuesOf a)) (λ x xs. refl) (conditionOf c) n j all r
+      → holdAll (view ks cs) (valuesOf a) (tabulate (conditionOf c) (n - j) j) ≡ whole → holdAll (view ks cs) (valuesOf a) (tabulate (conditionOf c) (n - (j + 1)) (j + 1)) ≡ whole
+  condition-more = every-next (holdAll (view ks cs) (valuesOf a)) (holds (view ks cs) (valuesOf a)) (λ x xs. refl) (conditionOf c) n j whole r
 
-pub conditions-end : (ks cs a : List ℕ) (c : Command) (n j : ℕ) (all : Bool) → n ≤ j → holdAll (view ks cs) (valuesOf a) (listed (conditionOf c) (n - j) j) ≡ all → true ≡ all
-conditions-end ks cs a c n j all h e = let z : n - j ≡ 0 = omega arith in rw z at e
+pub conditions-end : (ks cs a : List ℕ) (c : Command) (n j : ℕ) (whole : Bool) → n ≤ j → holdAll (view ks cs) (valuesOf a) (tabulate (conditionOf c) (n - j) j) ≡ whole → true ≡ whole
+conditions-end ks cs a c n j whole h e = let z : n - j ≡ 0 = omega arith in rw z at e

@@ -6,7 +6,7 @@ use mathlib.Core.Option.{Option, none, some}
 use native.Mathlib.Nat.{le-trans}
 use native.Mathlib.Omega.{arith}
 use lib.ListN.{getD, getElem?}
-use Rattle.cases.proofs.Lists.{found-listed, none-listed}
+use Rattle.cases.proofs.Lists.{found-tabulate, none-tabulate}
 use Rattle.protection.specs.Limits.{rights}
 use Rattle.protection.specs.Command.{Command as ModelCommand, valuesOf}
 use Rattle.protection.specs.Execution.{bounded, Outcome, refused, executeCommand}
@@ -43,7 +43,7 @@ module _ (p : Policy) (m : Matrix) (i : ℕ) (a : List ℕ) (right : ℕ) where
   pub refused-11 : (x : Executed) → Canonical rights (m .kinds) (m .cells) → p .commands ≤ i → x ≡ refusedExecuted 11 m → ExecutedAs right (outcomeOf p m i a) m x
   refused-11 x K h e =
       executed-refused right 11 m (outcomeOf p m i a) x K
-      (ap (λ (w : Option ModelCommand). executeCommand bounded (stateOf m) w (valuesOf a)) (none-listed (λ j. meaning (getD (p .command) j missing)) (p .commands) 0 i h)) e
+      (ap (λ (w : Option ModelCommand). executeCommand bounded (stateOf m) w (valuesOf a)) (none-tabulate (λ j. meaning (getD (p .command) j missing)) (p .commands) 0 i h)) e
 
   pub call-fits : (c : Command) → PolicyFits p → i < p .commands → c ≡ getD (p .command) i missing → Fits rights c
   call-fits c F l e = subst (Fits rights) (sym e) (fits-wider (p .rights) rights (getD (p .command) i missing) (F .few-rights) (F .commands-fit i l))
@@ -53,5 +53,5 @@ module _ (p : Policy) (m : Matrix) (i : ℕ) (a : List ℕ) (right : ℕ) where
   called c x l e h =
       let z : 0 + i ≡ i = omega arith in
       let f : getElem? (systemOf p .commands) i ≡ some (meaning c) =
-      found-listed (λ j. meaning (getD (p .command) j missing)) (p .commands) 0 i l ∙ ap (λ (j : ℕ). some (meaning (getD (p .command) j missing))) z ∙ ap (λ (w : Command). some (meaning w)) (sym e) in
+      found-tabulate (λ j. meaning (getD (p .command) j missing)) (p .commands) 0 i l ∙ ap (λ (j : ℕ). some (meaning (getD (p .command) j missing))) z ∙ ap (λ (w : Command). some (meaning w)) (sym e) in
       subst (λ (w : Option ModelCommand). ExecutedAs right (executeCommand bounded (stateOf m) w (valuesOf a)) m x) (sym f) h

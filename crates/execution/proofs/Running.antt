@@ -10,9 +10,9 @@ use native.Mathlib.Omega.{arith}
 use borrow.Author.Tests.{not-true, not-false, ltb-true, lt-ltb}
 use lib.Dec.{T, eqb, ltb}
 use lib.ListN.{length, getD, getElem?}
-use Rattle.cases.specs.Cases.{pick, each, listed}
+use Rattle.cases.specs.Cases.{pick, all, tabulate}
 use Rattle.cases.proofs.Bools.{holds as test-holds}
-use Rattle.cases.proofs.Loops.{each-at}
+use Rattle.cases.proofs.Loops.{all-at}
 use Rattle.protection.specs.Limits.{names, rights, parameters}
 use Rattle.protection.specs.State.{State}
 use Rattle.protection.specs.Command.{Operation as ModelOperation, Command as ModelCommand, valuesOf}
@@ -27,7 +27,7 @@ use Rattle.commands.specs.Fits.{Fits}
 use Rattle.commands.specs.declared.Command.{Command}
 use Rattle.commands.specs.declared.Operation.{Operation}
 use Rattle.commands.specs.declared.Operation.the-variants.{Enter, Delete, CreateSubject, CreateObject, DestroySubject, DestroyObject}
-use Rattle.operations.specs.Operations.{Named, Applies, performed}
+use Rattle.operations.specs.Operations.{HasName, Applies, performed}
 use Rattle.execution.specs.Conditions.{ConditionApplies, ConditionsApply, SparesApply}
 use Rattle.execution.specs.Runs.{OperationsApply, RanAs, answerOf, refusedExecuted, ExecutedAs}
 use Rattle.execution.specs.declared.Answer.the-variants.{Refused, Done, Leaked}
@@ -36,7 +36,7 @@ use Rattle.execution.specs.declared.Ran.{Ran}
 use Rattle.operations.proofs.Applied.{Grants, can-by-kinds, performed-state, performed-canonical}
 
 -- ---- the operation that four bytes say
-applies-by : (a : List ℕ) (k q s o : ℕ) → q < rights → Named a s → Named a o → Applies a (operationBy k q s o)
+applies-by : (a : List ℕ) (k q s o : ℕ) → q < rights → HasName a s → HasName a o → Applies a (operationBy k q s o)
 applies-by a k q s o lq hs ho = go (eqb k 1) (eqb k 2) (eqb k 3) (eqb k 4) (eqb k 5)
   where
     go : (b₁ b₂ b₃ b₄ b₅ : Bool) → Applies a (pick b₁ (Enter q s o) (pick b₂ (Delete q s o) (pick b₃ (CreateSubject s) (pick b₄ (CreateObject s) (pick b₅ (DestroySubject s) (DestroyObject s))))))
@@ -64,9 +64,9 @@ applies-at a c j op h l e =
 
 -- ---- what is left of the operations, from where the loop stands, is the whole
 pub record Going (right : ℕ) (m : Matrix) (a : List ℕ) (c : Command) (j : ℕ) (x : Matrix) (leaked : Bool) : Type 0 where
-  pub able : canDoAll (stateOf x) (valuesOf a) (listed (operationOf c) (c .operations - j) j) ≡ canDoAll (stateOf m) (valuesOf a) (listed (operationOf c) (c .operations) 0)
-  pub leak : leaked || entersAnyNew (stateOf x) (valuesOf a) (listed (operationOf c) (c .operations - j) j) right ≡ entersAnyNew (stateOf m) (valuesOf a) (listed (operationOf c) (c .operations) 0) right
-  pub state : effectAll (stateOf x) (valuesOf a) (listed (operationOf c) (c .operations - j) j) ≡ effectAll (stateOf m) (valuesOf a) (listed (operationOf c) (c .operations) 0)
+  pub able : canDoAll (stateOf x) (valuesOf a) (tabulate (operationOf c) (c .operations - j) j) ≡ canDoAll (stateOf m) (valuesOf a) (tabulate (operationOf c) (c .operations) 0)
+  pub leak : leaked || entersAnyNew (stateOf x) (valuesOf a) (tabulate (operationOf c) (c .operations - j) j) right ≡ entersAnyNew (stateOf m) (valuesOf a) (tabulate (operationOf c) (c .operations) 0) right
+  pub state : effectAll (stateOf x) (valuesOf a) (tabulate (operationOf c) (c .operations - j) j) ≡ effectAll (stateOf m) (valuesOf a) (tabulate (operationOf c) (c .operations) 0)
   pub canonical : Canonical rights (x .kinds) (x .cells)
 
 pub going-start : (right : ℕ) (m : Matrix) (a : List ℕ) (c : Command) → Canonical rights (m .kinds) (m .cells) → Going right m a c 0 m false
@@ -74,16 +74,16 @@ going-start right m a c K = record { able = rw sub-zero; leak = rw sub-zero; sta
 
 module _ (right : ℕ) (m : Matrix) (a : List ℕ) (c : Command) (j : ℕ) (x : Matrix) (leaked : Bool) (G : Going right m a c j x leaked)
     (l : j < c .operations) (op : Operation) (e : op ≡ operationAt c j) (r : Bool) (d : r ≡ canDo (view (x .kinds) []) (valuesOf a) (modelOf op)) where
-  unrolled : listed (operationOf c) (c .operations - j) j ≡ operationOf c j ∷ listed (operationOf c) (c .operations - (j + 1)) (j + 1)
+  unrolled : tabulate (operationOf c) (c .operations - j) j ≡ operationOf c j ∷ tabulate (operationOf c) (c .operations - (j + 1)) (j + 1)
   unrolled = let z : c .operations - j ≡ suc (c .operations - (j + 1)) = omega arith in rw (z, add-one j)
 
   can-here : r ≡ canDo (stateOf x) (valuesOf a) (operationOf c j)
   can-here = d ∙ can-by-kinds (x .kinds) [] (x .cells) (valuesOf a) op ∙ ap (λ (p : Operation). canDo (stateOf x) (valuesOf a) (modelOf p)) e
 
-  pub going-stop : Canonical rights (m .kinds) (m .cells) → not r ≡ true → RanAs right m a (listed (operationOf c) (c .operations) 0) (record { done = false; leaked = leaked; matrix = m })
+  pub going-stop : Canonical rights (m .kinds) (m .cells) → not r ≡ true → RanAs right m a (tabulate (operationOf c) (c .operations) 0) (record { done = false; leaked = leaked; matrix = m })
   going-stop K t =
       let z : canDo (stateOf x) (valuesOf a) (operationOf c j) ≡ false = sym can-here ∙ not-true r t in
-      let w : canDoAll (stateOf x) (valuesOf a) (listed (operationOf c) (c .operations - j) j) ≡ false = ap (canDoAll (stateOf x) (valuesOf a)) unrolled ∙ rw z in
+      let w : canDoAll (stateOf x) (valuesOf a) (tabulate (operationOf c) (c .operations - j) j) ≡ false = ap (canDoAll (stateOf x) (valuesOf a)) unrolled ∙ rw z in
       record { able = sym w ∙ G .able; leak = λ q. absurd (never q); state = λ q. absurd (never q); canonical = K }
     where
       never : _≡_ {A = Bool} false true → ⊥
@@ -110,14 +110,14 @@ module _ (right : ℕ) (m : Matrix) (a : List ℕ) (c : Command) (j : ℕ) (x : 
       }
     where
       rest : List ModelOperation
-      rest = listed (operationOf c) (c .operations - (j + 1)) (j + 1)
+      rest = tabulate (operationOf c) (c .operations - (j + 1)) (j + 1)
 
       or-assoc : (u v w : Bool) → (u || v) || w ≡ u || (v || w)
       or-assoc true v w = refl
       or-assoc false v w = refl
 
 pub going-end : (right : ℕ) (m : Matrix) (a : List ℕ) (c : Command) (j : ℕ) (x : Matrix) (leaked : Bool) → Going right m a c j x leaked → c .operations ≤ j
-    → RanAs right m a (listed (operationOf c) (c .operations) 0) (record { done = true; leaked = leaked; matrix = x })
+    → RanAs right m a (tabulate (operationOf c) (c .operations) 0) (record { done = true; leaked = leaked; matrix = x })
 going-end right m a c j x leaked G h =
     let z : c .operations - j ≡ 0 = omega arith in
     record {
@@ -128,11 +128,11 @@ going-end right m a c j x leaked G h =
     }
 
 -- ---- what a call that passed the test of its actuals may rest on
-module _ (a : List ℕ) (c : Command) (F : Fits rights c) (r : Bool) (d : r ≡ each (actualFits bounded (c .parameters) (valuesOf a)) parameters 0) (t : not r ≡ false) where
-  named : (b : ℕ) → b < c .parameters → Named a b
+module _ (a : List ℕ) (c : Command) (F : Fits rights c) (r : Bool) (d : r ≡ all (actualFits bounded (c .parameters) (valuesOf a)) parameters 0) (t : not r ≡ false) where
+  named : (b : ℕ) → b < c .parameters → HasName a b
   named b l =
       let few = F .few-parameters in
-      let e : actualFits bounded (c .parameters) (valuesOf a) b ≡ true = each-at (actualFits bounded (c .parameters) (valuesOf a)) parameters 0 (sym d ∙ not-false r t) b (omega arith) (omega arith) in
+      let e : actualFits bounded (c .parameters) (valuesOf a) b ≡ true = all-at (actualFits bounded (c .parameters) (valuesOf a)) parameters 0 (sym d ∙ not-false r t) b (omega arith) (omega arith) in
       let z : ltb b (c .parameters) ≡ true = lt-ltb b (c .parameters) l in
       record { parameter = omega arith; name = ltb-true (getD a b 0) names (rw z at e) }
 
@@ -142,7 +142,7 @@ module _ (a : List ℕ) (c : Command) (F : Fits rights c) (r : Bool) (d : r ≡ 
   pub conditions-apply : ConditionsApply a c
   conditions-apply = record {
     few = F .few-conditions;
-    each = λ j l. record {
+    all = λ j l. record {
       number = omega (arith, F .few-conditions);
       right = F .condition-right j l;
       subject = named (getD (c .condition) (3 * j + 1) 0) (F .condition-subject j l);
@@ -169,28 +169,28 @@ module _ (right : ℕ) (m : Matrix) (c : Command) (a : List ℕ) (K : Canonical 
   outcome = executeCommand bounded (stateOf m) (some (meaning c)) (valuesOf a)
 
   abbrev end : Outcome
-  end = done (effectAll (stateOf m) (valuesOf a) (listed (operationOf c) (c .operations) 0)) (entersAnyNew (stateOf m) (valuesOf a) (listed (operationOf c) (c .operations) 0))
+  end = done (effectAll (stateOf m) (valuesOf a) (tabulate (operationOf c) (c .operations) 0)) (entersAnyNew (stateOf m) (valuesOf a) (tabulate (operationOf c) (c .operations) 0))
 
-  module _ (r₁ : Bool) (d₁ : r₁ ≡ each (actualFits bounded (c .parameters) (valuesOf a)) parameters 0) where
+  module _ (r₁ : Bool) (d₁ : r₁ ≡ all (actualFits bounded (c .parameters) (valuesOf a)) parameters 0) where
     pub refused-12 : (x : Executed) → not r₁ ≡ true → x ≡ refusedExecuted 12 m → ExecutedAs right outcome m x
     refused-12 x t e = executed-refused right 12 m outcome x K (let z = sym d₁ ∙ not-true r₁ t in rw z) e
 
-    module _ (t₁ : not r₁ ≡ false) (r₂ : Bool) (d₂ : r₂ ≡ each (spareExists (meaning c) (view (m .kinds) []) (valuesOf a)) (c .parameters) 0) where
-      passed-12 : each (actualFits bounded (c .parameters) (valuesOf a)) parameters 0 ≡ true
+    module _ (t₁ : not r₁ ≡ false) (r₂ : Bool) (d₂ : r₂ ≡ all (spareExists (meaning c) (view (m .kinds) []) (valuesOf a)) (c .parameters) 0) where
+      passed-12 : all (actualFits bounded (c .parameters) (valuesOf a)) parameters 0 ≡ true
       passed-12 = sym d₁ ∙ not-false r₁ t₁
 
       pub refused-13 : (x : Executed) → not r₂ ≡ true → x ≡ refusedExecuted 13 m → ExecutedAs right outcome m x
       refused-13 x t e = executed-refused right 13 m outcome x K (let z = sym d₂ ∙ not-true r₂ t in rw (passed-12, z)) e
 
-      module _ (t₂ : not r₂ ≡ false) (r₃ : Bool) (d₃ : r₃ ≡ holdAll (view (m .kinds) (m .cells)) (valuesOf a) (listed (conditionOf c) (c .conditions) 0)) where
-        passed-13 : each (spareExists (meaning c) (view (m .kinds) []) (valuesOf a)) (c .parameters) 0 ≡ true
+      module _ (t₂ : not r₂ ≡ false) (r₃ : Bool) (d₃ : r₃ ≡ holdAll (view (m .kinds) (m .cells)) (valuesOf a) (tabulate (conditionOf c) (c .conditions) 0)) where
+        passed-13 : all (spareExists (meaning c) (view (m .kinds) []) (valuesOf a)) (c .parameters) 0 ≡ true
         passed-13 = sym d₂ ∙ not-false r₂ t₂
 
         pub refused-14 : (x : Executed) → not r₃ ≡ true → x ≡ refusedExecuted 14 m → ExecutedAs right outcome m x
         refused-14 x t e = executed-refused right 14 m outcome x K (let z = sym d₃ ∙ not-true r₃ t in rw (passed-12, passed-13, z)) e
 
-        module _ (t₃ : not r₃ ≡ false) (w : Ran) (d₄ : RanAs right m a (listed (operationOf c) (c .operations) 0) w) where
-          passed-14 : holdAll (view (m .kinds) (m .cells)) (valuesOf a) (listed (conditionOf c) (c .conditions) 0) ≡ true
+        module _ (t₃ : not r₃ ≡ false) (w : Ran) (d₄ : RanAs right m a (tabulate (operationOf c) (c .operations) 0) w) where
+          passed-14 : holdAll (view (m .kinds) (m .cells)) (valuesOf a) (tabulate (conditionOf c) (c .conditions) 0) ≡ true
           passed-14 = sym d₃ ∙ not-false r₃ t₃
 
           pub refused-15 : (x : Executed) → not (w .done) ≡ true → x ≡ refusedExecuted 15 m → ExecutedAs right outcome m x

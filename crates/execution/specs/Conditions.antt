@@ -4,21 +4,21 @@ use mathlib.Core.List.{List}
 use lib.ListN.{getD}
 use Rattle.protection.specs.Limits.{rights, parameters, conditions, operations}
 use Rattle.commands.specs.declared.Command.{Command}
-use Rattle.operations.specs.Operations.{Named}
+use Rattle.operations.specs.Operations.{HasName}
 
 -- condition j has a right that a cell can hold, and its parameters have names
 pub record ConditionApplies (a : List ℕ) (c : Command) (j : ℕ) : Type 0 where
   pub number : j < conditions
   pub right : getD (c .condition) (3 * j) 0 < rights
-  pub subject : Named a (getD (c .condition) (3 * j + 1) 0)
-  pub object : Named a (getD (c .condition) (3 * j + 2) 0)
+  pub subject : HasName a (getD (c .condition) (3 * j + 1) 0)
+  pub object : HasName a (getD (c .condition) (3 * j + 2) 0)
 
 pub record ConditionsApply (a : List ℕ) (c : Command) : Type 0 where
   pub few : c .conditions ≤ conditions
-  pub each : (j : ℕ) → j < c .conditions → ConditionApplies a c j
+  pub all : (j : ℕ) → j < c .conditions → ConditionApplies a c j
 
 pub record SparesApply (a : List ℕ) (c : Command) : Type 0 where
   pub few-parameters : c .parameters ≤ parameters
   pub few-conditions : c .conditions ≤ conditions
   pub few-operations : c .operations ≤ operations
-  pub named : (b : ℕ) → b < c .parameters → Named a b
+  pub named : (b : ℕ) → b < c .parameters → HasName a b

@@ -15,7 +15,7 @@ use Rattle.matrix.specs.declared.Matrix.{Matrix}
 use Rattle.commands.specs.declared.Command.{Command}
 use Rattle.policy.specs.Contents.{systemOf}
 use Rattle.policy.specs.declared.Policy.{Policy}
-use Rattle.operations.specs.Operations.{Named}
+use Rattle.operations.specs.Operations.{HasName}
 use Rattle.execution.specs.declared.Answer.{Answer}
 use Rattle.execution.specs.declared.Answer.the-variants.{Refused, Done, Leaked}
 use Rattle.execution.specs.declared.Executed.{Executed}
@@ -25,8 +25,8 @@ use Rattle.execution.specs.declared.Ran.{Ran}
 pub record OperationsApply (a : List ℕ) (c : Command) : Type 0 where
   pub few : c .operations ≤ operations
   pub right : (j : ℕ) → j < c .operations → getD (c .operation) (4 * j + 1) 0 < rights
-  pub first : (j : ℕ) → j < c .operations → Named a (getD (c .operation) (4 * j + 2) 0)
-  pub second : (j : ℕ) → j < c .operations → Named a (getD (c .operation) (4 * j + 3) 0)
+  pub first : (j : ℕ) → j < c .operations → HasName a (getD (c .operation) (4 * j + 2) 0)
+  pub second : (j : ℕ) → j < c .operations → HasName a (getD (c .operation) (4 * j + 3) 0)
 
 -- all operations were done, and this is what they left; or one could not be done
 pub record RanAs (right : ℕ) (m : Matrix) (a : List ℕ) (ops : List Operation) (x : Ran) : Type 0 where

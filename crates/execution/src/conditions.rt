@@ -3,7 +3,7 @@ ghost use mathlib.Core.Path.{_≡_};
 ghost use mathlib.Core.List.{[]};
 ghost use Prim.Native.Nat.{_<_, _≤_};
 ghost use Rattle.protection.specs.Limits.{parameters};
-ghost use Rattle.cases.specs.Cases.{each, listed};
+ghost use Rattle.cases.specs.Cases.{all, tabulate};
 ghost use Rattle.protection.specs.Command.{valuesOf};
 ghost use Rattle.protection.specs.Execution.{bounded, holds, holdAll, spareExists, actualFits};
 ghost use Rattle.matrix.specs.Bytes.{view};
@@ -25,7 +25,7 @@ fn actual_fits(k: u8, a: [u8; Command::PARAMETERS], b: usize) -> bool
 }
 
 pub fn actuals_fit(k: u8, a: [u8; Command::PARAMETERS]) -> bool
-    ensures { λ r. ⌜ r ≡ each (actualFits bounded k (valuesOf a)) parameters 0 ⌝ }
+    ensures { λ r. ⌜ r ≡ all (actualFits bounded k (valuesOf a)) parameters 0 ⌝ }
 {
     for b in 0..Command::PARAMETERS {
         if !actual_fits(k, a, b) {
@@ -53,7 +53,7 @@ fn spare_exists(
 
 pub fn spares_exist(kinds: &[u8; Matrix::NAMES], c: Command, a: [u8; Command::PARAMETERS]) -> bool
     requires { ⌜ SparesApply a c ⌝ }
-    ensures { λ r. ⌜ r ≡ each (spareExists (meaning c) (view (now (kinds .entry)) []) (valuesOf a)) (c .parameters) 0 ⌝ }
+    ensures { λ r. ⌜ r ≡ all (spareExists (meaning c) (view (now (kinds .entry)) []) (valuesOf a)) (c .parameters) 0 ⌝ }
 {
     let k = c.parameters;
     for b in 0..k {
@@ -87,7 +87,7 @@ pub fn conditions_hold<'a>(
     a: [u8; Command::PARAMETERS],
 ) -> bool
     requires { ⌜ ConditionsApply a c ⌝ }
-    ensures { λ r. ⌜ r ≡ holdAll (view (now (kinds .entry)) (now (cells .entry))) (valuesOf a) (listed (conditionOf c) (c .conditions) 0) ⌝ }
+    ensures { λ r. ⌜ r ≡ holdAll (view (now (kinds .entry)) (now (cells .entry))) (valuesOf a) (tabulate (conditionOf c) (c .conditions) 0) ⌝ }
 {
     let n = c.conditions as usize;
     for j in 0..n {

@@ -2,7 +2,7 @@
 ghost use mathlib.Core.Path.{_≡_};
 ghost use mathlib.Core.Option.{some};
 ghost use Rattle.protection.specs.Limits.{rights};
-ghost use Rattle.cases.specs.Cases.{listed};
+ghost use Rattle.cases.specs.Cases.{tabulate};
 ghost use Rattle.protection.specs.Command.{valuesOf};
 ghost use Rattle.protection.specs.Execution.{bounded, executeCommand};
 ghost use Rattle.matrix.specs.Canonical.{Canonical};
@@ -39,7 +39,7 @@ struct Ran {
 // The operations in order, each on what the one before left.
 fn run_operations(m: Matrix, c: Command, a: [u8; Command::PARAMETERS], right: u8) -> Ran
     requires { ⌜ Canonical rights (m .kinds) (m .cells) × OperationsApply a c ⌝ }
-    ensures { λ r. ⌜ RanAs right m a (listed (operationOf c) (c .operations) 0) r ⌝ }
+    ensures { λ r. ⌜ RanAs right m a (tabulate (operationOf c) (c .operations) 0) r ⌝ }
 {
     let n = c.operations as usize;
     let mut matrix = m;

@@ -7,11 +7,11 @@ use native.Mathlib.Omega.{arith}
 use borrow.Author.Tests.{ltb-false, eqb-true}
 use lib.Dec.{eqb, ltb, eqb·suc-zero}
 use lib.ListN.{length}
-use Rattle.cases.specs.Cases.{pick, each}
-use Rattle.cases.proofs.Loops.{each-at}
+use Rattle.cases.specs.Cases.{pick, all}
+use Rattle.cases.proofs.Loops.{all-at}
 use Rattle.protection.specs.Limits.{names, rights, commands, fileBytes}
 use Rattle.layout.specs.File.{rightsOf, pairsOf, offsetOf, lengthOf, pairsEnd, startOf}
-use Rattle.layout.specs.Refusals.{orElse, headerRefusal, placed, pairsRefusal, sizesRefusal}
+use Rattle.layout.specs.Refusals.{orElse, headerRefusal, inPlace, pairsRefusal, sizesRefusal}
 
 -- ---- one test of a chain
 pub passed : (b : Bool) (n x : ℕ) → pick b (suc n) x ≡ 0 → (b ≡ false) × (x ≡ 0)
@@ -57,9 +57,9 @@ header-accepted f e =
     }
 
 -- ---- the table of pairs: every section lies inside the file
-module _ (f : List ℕ) (n : ℕ) (h : each (placed f) n 0 ≡ true) (e : startOf f n ≡ length f) where
+module _ (f : List ℕ) (n : ℕ) (h : all (inPlace f) n 0 ≡ true) (e : startOf f n ≡ length f) where
   placed-at : (i : ℕ) → i < n → offsetOf f i ≡ startOf f i
-  placed-at i l = eqb-true (offsetOf f i) (startOf f i) (each-at (placed f) n 0 h i (omega arith) (omega arith))
+  placed-at i l = eqb-true (offsetOf f i) (startOf f i) (all-at (inPlace f) n 0 h i (omega arith) (omega arith))
 
   ends-inside : (d i : ℕ) → suc i + d ≡ n → offsetOf f i + lengthOf f i ≤ length f
   unfolding startOf
@@ -72,7 +72,7 @@ module _ (f : List ℕ) (n : ℕ) (h : each (placed f) n 0 ≡ true) (e : startO
 pub pairs-accepted : (f : List ℕ) → pairsRefusal f ≡ 0 → (i : ℕ) → i < pairsOf f → offsetOf f i + lengthOf f i ≤ length f
 unfolding pairsRefusal
 pairs-accepted f e i l =
-    let t1 = held (each (placed f) (pairsOf f) 0) 3 _ e in
+    let t1 = held (all (inPlace f) (pairsOf f) 0) 3 _ e in
     let t2 = held (eqb (startOf f (pairsOf f)) (length f)) 3 _ (t1 .1) in
     ends-inside f (pairsOf f) (t1 .0) (eqb-true (startOf f (pairsOf f)) (length f) (t2 .0)) (pairsOf f - suc i) i (omega arith)
 
@@ -80,7 +80,7 @@ pairs-accepted f e i l =
 pub sections-placed : (f : List ℕ) → pairsRefusal f ≡ 0 → (i : ℕ) → i < pairsOf f → offsetOf f i ≡ startOf f i
 unfolding pairsRefusal
 sections-placed f e i l =
-    let t1 = held (each (placed f) (pairsOf f) 0) 3 _ e in
+    let t1 = held (all (inPlace f) (pairsOf f) 0) 3 _ e in
     let t2 = held (eqb (startOf f (pairsOf f)) (length f)) 3 _ (t1 .1) in
     placed-at f (pairsOf f) (t1 .0) (eqb-true (startOf f (pairsOf f)) (length f) (t2 .0)) i l
 

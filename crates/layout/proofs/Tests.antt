@@ -7,17 +7,17 @@ use native.Mathlib.Numerals.{add-one}
 use native.Mathlib.Omega.{arith}
 use borrow.Author.Tests.{ne-eqb, eq-eqb}
 use lib.ListN.{length}
-use Rattle.cases.specs.Cases.{each}
-use Rattle.cases.proofs.Loops.{each-false, each-true, each-end}
+use Rattle.cases.specs.Cases.{all}
+use Rattle.cases.proofs.Loops.{all-false, all-true, all-end}
 use Rattle.layout.specs.File.{word, pairsOf, offsetOf, startOf}
-use Rattle.layout.specs.Refusals.{placed, pairsRefusal}
+use Rattle.layout.specs.Refusals.{inPlace, pairsRefusal}
 
-module _ (f : List ℕ) (n i at : ℕ) (all : Bool) where
-  pub pair-stop : (w : ℕ) → w ≡ word f (2 + 4 * i) → (w ≡ at → ⊥) → at ≡ startOf f i → i < n → each (placed f) (n - i) i ≡ all → false ≡ all
-  pair-stop w d t s h e = each-false (placed f) n all i (ne-eqb (offsetOf f i) (startOf f i) (λ z. t (d ∙ z ∙ sym s))) h e
+module _ (f : List ℕ) (n i at : ℕ) (whole : Bool) where
+  pub pair-stop : (w : ℕ) → w ≡ word f (2 + 4 * i) → (w ≡ at → ⊥) → at ≡ startOf f i → i < n → all (inPlace f) (n - i) i ≡ whole → false ≡ whole
+  pair-stop w d t s h e = all-false (inPlace f) n whole i (ne-eqb (offsetOf f i) (startOf f i) (λ z. t (d ∙ z ∙ sym s))) h e
 
-  pub pair-more : (w : ℕ) → w ≡ word f (2 + 4 * i) → w ≡ at → at ≡ startOf f i → i < n → each (placed f) (n - i) i ≡ all → each (placed f) (n - (i + 1)) (i + 1) ≡ all
-  pair-more w d t s h e = each-true (placed f) n all i (eq-eqb (offsetOf f i) (startOf f i) (sym d ∙ t ∙ s)) h e
+  pub pair-more : (w : ℕ) → w ≡ word f (2 + 4 * i) → w ≡ at → at ≡ startOf f i → i < n → all (inPlace f) (n - i) i ≡ whole → all (inPlace f) (n - (i + 1)) (i + 1) ≡ whole
+  pair-more w d t s h e = all-true (inPlace f) n whole i (eq-eqb (offsetOf f i) (startOf f i) (sym d ∙ t ∙ s)) h e
 
 pub start-first : (f : List ℕ) (n : ℕ) → n ≡ pairsOf f → 2 + 4 * n ≡ startOf f 0
 unfolding startOf
@@ -27,14 +27,14 @@ pub start-next : (f : List ℕ) (i w v : ℕ) → w ≡ word f (2 + 4 * i) → v
 unfolding startOf
 start-next f i w v d e = rw (add-one i, d, e)
 
-pub misplaced : (f : List ℕ) (n : ℕ) → n ≡ pairsOf f → false ≡ each (placed f) n 0 → 4 ≡ pairsRefusal f
+pub misplaced : (f : List ℕ) (n : ℕ) → n ≡ pairsOf f → false ≡ all (inPlace f) n 0 → 4 ≡ pairsRefusal f
 unfolding pairsRefusal
-misplaced f n e d = let z : each (placed f) (pairsOf f) 0 ≡ false = rw (← e) (sym d) in rw z
+misplaced f n e d = let z : all (inPlace f) (pairsOf f) 0 ≡ false = rw (← e) (sym d) in rw z
 
 -- the loop has come to its end, at place i
-module _ (f : List ℕ) (n i at : ℕ) (e : n ≡ pairsOf f) (l : i ≤ n) (g : n ≤ i) (s : at ≡ startOf f i) (d : each (placed f) (n - i) i ≡ each (placed f) n 0) where
-  all-placed : each (placed f) (pairsOf f) 0 ≡ true
-  all-placed = rw (← e) (sym (each-end (placed f) n (each (placed f) n 0) i g d))
+module _ (f : List ℕ) (n i at : ℕ) (e : n ≡ pairsOf f) (l : i ≤ n) (g : n ≤ i) (s : at ≡ startOf f i) (d : all (inPlace f) (n - i) i ≡ all (inPlace f) n 0) where
+  all-placed : all (inPlace f) (pairsOf f) 0 ≡ true
+  all-placed = rw (← e) (sym (all-end (inPlace f) n (all (inPlace f) n 0) i g d))
 
   ends : at ≡ startOf f (pairsOf f)
   ends = let z : i ≡ n = omega arith in s ∙ ap (startOf f) (z ∙ e)

@@ -4,7 +4,7 @@ use mathlib.Core.Bool.{Bool}
 use mathlib.Core.List.{List}
 use lib.ListN.{length}
 use lib.Dec.{ltb, eqb}
-use Rattle.cases.specs.Cases.{pick, each}
+use Rattle.cases.specs.Cases.{pick, all}
 use Rattle.protection.specs.Limits.{names, rights, commands, fileBytes}
 use Rattle.layout.specs.File.{rightsOf, pairsOf, offsetOf, lengthOf, pairsEnd, startOf}
 
@@ -25,11 +25,11 @@ headerRefusal f =
     0))))))
 
 -- "4 an offset or end not where it must be"
-abbrev pub placed : List ℕ → ℕ → Bool
-placed f i = eqb (offsetOf f i) (startOf f i)
+abbrev pub inPlace : List ℕ → ℕ → Bool
+inPlace f i = eqb (offsetOf f i) (startOf f i)
 
 unfoldable pub pairsRefusal : List ℕ → ℕ
-pairsRefusal f = pick (each (placed f) (pairsOf f) 0) (pick (eqb (startOf f (pairsOf f)) (length f)) 0 4) 4
+pairsRefusal f = pick (all (inPlace f) (pairsOf f) 0) (pick (eqb (startOf f (pairsOf f)) (length f)) 0 4) 4
 
 -- "5 a section's length wrong (kinds, cells, ..)"
 unfoldable pub sizesRefusal : List ℕ → ℕ

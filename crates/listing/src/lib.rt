@@ -5,7 +5,7 @@ ghost use Prim.Native.Nat.{_+_, _*_, _≤_, _<_};
 ghost use lib.ListN.{length, take};
 ghost use Rattle.listing.specs.Listing.{unsafeWord, decimal, spaced, head, line, lines, printed, bufferBytes, listing};
 ghost use Rattle.listing.specs.Writing.{Put, PutWithin, shownActual, Room, listingBytes, Answered};
-ghost use Rattle.trace.specs.Traces.{callAt, calls};
+ghost use Rattle.trace.specs.Traces.{stepCall, calls};
 ghost use Rattle.safety.specs.Demand3.{stepsWritten};
 use matrix::Matrix;
 use policy::Policy;
@@ -97,7 +97,7 @@ fn put_line(out: &mut [u8], at: usize, k: u8, command: u8, a0: u8, a1: u8, a2: u
 // The line of step i, whose rule has k blanks.
 fn put_step(out: &mut [u8], at: usize, k: u8, steps: &[u8], i: usize) -> usize
     requires { ⌜ (at + 20 ≤ length (now out)) × (5 * i + 5 ≤ length (now steps)) ⌝ }
-    ensures { λ r. ⌜ PutWithin 20 (now (out .entry)) at (line k (callAt (now (steps .entry)) i)) r (now (out .exit)) ⌝ }
+    ensures { λ r. ⌜ PutWithin 20 (now (out .entry)) at (line k (stepCall (now (steps .entry)) i)) r (now (out .exit)) ⌝ }
 {
     let from = 5 * i;
     put_line(

@@ -11,9 +11,9 @@ use lib.Dec.{T, T-not, not-T}
 use lib.ListN.{length, getD, List·getD-eq-default}
 use lib.Pow.{pow-pos}
 use lib.Seq.{ext-getD}
-use Rattle.cases.specs.Cases.{listed}
+use Rattle.cases.specs.Cases.{tabulate}
 use Rattle.cases.proofs.Bools.{and-left, and-right, and-intro, both, is-false, same-truth}
-use Rattle.cases.proofs.Lists.{length-listed, getD-listed}
+use Rattle.cases.proofs.Lists.{length-tabulate, getD-tabulate}
 use Rattle.rights.specs.Rights.{has, number}
 use Rattle.rights.proofs.Sets.{has-below, has-none, has-number, number-below, number-has, number-same, number-within}
 use Rattle.protection.specs.Limits.{names, rights}
@@ -90,10 +90,10 @@ module _ (g : ℕ) (ks cs : List ℕ) (K : Canonical g ks cs) where
   unfolding kindsOf
   kinds-back =
       let f : ℕ → ℕ = λ x. kindByte (kindOf (getD ks x 0)) in
-      let n : length (listed f names 0) ≡ names = length-listed f names 0 in
+      let n : length (tabulate f names 0) ≡ names = length-tabulate f names 0 in
       let e = K .kinds-length in
-      ext-getD 0 (listed f names 0) ks (n ∙ sym e)
-      (λ i l. getD-listed f 0 names 0 i (omega arith) ∙ byte-kind (getD ks (0 + i) 0) (K .kinds-fit (0 + i)) ∙ ap (λ (z : ℕ). getD ks z 0) (omega arith))
+      ext-getD 0 (tabulate f names 0) ks (n ∙ sym e)
+      (λ i l. getD-tabulate f 0 names 0 i (omega arith) ∙ byte-kind (getD ks (0 + i) 0) (K .kinds-fit (0 + i)) ∙ ap (λ (z : ℕ). getD ks z 0) (omega arith))
 
   module _ (few : g ≤ rights) where
     cell-back : (c : ℕ) → c < names * names → cellByte (view ks cs) c ≡ getD cs c 0
@@ -115,10 +115,10 @@ module _ (g : ℕ) (ks cs : List ℕ) (K : Canonical g ks cs) where
     unfolding cellsOf
     cells-back =
         let f : ℕ → ℕ = cellByte (view ks cs) in
-        let n : length (listed f (names * names) 0) ≡ names * names = length-listed f (names * names) 0 in
+        let n : length (tabulate f (names * names) 0) ≡ names * names = length-tabulate f (names * names) 0 in
         let e = K .cells-length in
-        ext-getD 0 (listed f (names * names) 0) cs (n ∙ sym e)
-        (λ i l. getD-listed f 0 (names * names) 0 i (omega arith) ∙ cell-back (0 + i) (omega arith) ∙ ap (λ (z : ℕ). getD cs z 0) (omega arith))
+        ext-getD 0 (tabulate f (names * names) 0) cs (n ∙ sym e)
+        (λ i l. getD-tabulate f 0 (names * names) 0 i (omega arith) ∙ cell-back (0 + i) (omega arith) ∙ ap (λ (z : ℕ). getD cs z 0) (omega arith))
 
 -- ---- from a state to bytes and back
 module _ (g : ℕ) (m : State) (K : Proper g m) where
@@ -129,18 +129,18 @@ module _ (g : ℕ) (m : State) (K : Proper g m) where
       f : ℕ → ℕ
       f z = kindByte (m .kind z)
 
-      go : Dec (x < names) → kindOf (getD (listed f names 0) x 0) ≡ m .kind x
-      go (yes l) = ap kindOf (getD-listed f 0 names 0 x l) ∙ kind-byte (m .kind (0 + x)) ∙ ap (m .kind) (omega arith)
+      go : Dec (x < names) → kindOf (getD (tabulate f names 0) x 0) ≡ m .kind x
+      go (yes l) = ap kindOf (getD-tabulate f 0 names 0 x l) ∙ kind-byte (m .kind (0 + x)) ∙ ap (m .kind) (omega arith)
       go (no l) =
-          let n : length (listed f names 0) ≡ names = length-listed f names 0 in
-          ap kindOf (List·getD-eq-default (listed f names 0) 0 {n = x} (omega arith)) ∙ absent-kind (m .kind x) (λ t. l (K .named x t))
+          let n : length (tabulate f names 0) ≡ names = length-tabulate f names 0 in
+          ap kindOf (List·getD-eq-default (tabulate f names 0) 0 {n = x} (omega arith)) ∙ absent-kind (m .kind x) (λ t. l (K .named x t))
 
   byte-at : (s o : ℕ) → s < names → o < names → getD (cellsOf m) (names * s + o) 0 ≡ number (m .cell s o) rights
   unfolding cellsOf
   byte-at s o ls lo =
       let es : (0 + (names * s + o)) / names ≡ s = omega arith in
       let eo : (0 + (names * s + o)) % names ≡ o = omega arith in
-      getD-listed (cellByte m) 0 (names * names) 0 (names * s + o) (omega arith) ∙ ap₂ (λ (x y : ℕ). number (m .cell x y) rights) es eo
+      getD-tabulate (cellByte m) 0 (names * names) 0 (names * s + o) (omega arith) ∙ ap₂ (λ (x y : ℕ). number (m .cell x y) rights) es eo
 
   inside-is : (s o : ℕ) → inside (kindsOf m) s o ≡ subjectIn m s && objectIn m o
   inside-is s o = ap₂ (λ (x y : Kind). isSubject x && isObject y) (kind-at s) (kind-at o)
@@ -181,24 +181,24 @@ module _ (g : ℕ) (m : State) (K : Proper g m) where
       f : ℕ → ℕ
       f z = kindByte (m .kind z)
 
-      go : Dec (x < names) → getD (listed f names 0) x 0 ≤ 2
-      go (yes l) = rw (getD-listed f 0 names 0 x l) (byte-small (m .kind (0 + x)))
+      go : Dec (x < names) → getD (tabulate f names 0) x 0 ≤ 2
+      go (yes l) = rw (getD-tabulate f 0 names 0 x l) (byte-small (m .kind (0 + x)))
       go (no l) =
-          let n : length (listed f names 0) ≡ names = length-listed f names 0 in
-          let z : getD (listed f names 0) x 0 ≡ 0 = List·getD-eq-default (listed f names 0) 0 {n = x} (omega arith) in
+          let n : length (tabulate f names 0) ≡ names = length-tabulate f names 0 in
+          let z : getD (tabulate f names 0) x 0 ≡ 0 = List·getD-eq-default (tabulate f names 0) 0 {n = x} (omega arith) in
           rw z (omega arith)
 
   cells-small : (c : ℕ) → getD (cellsOf m) c 0 < 2 ^ g
   unfolding cellsOf
   cells-small c = go (decLt c (names * names))
     where
-      go : Dec (c < names * names) → getD (listed (cellByte m) (names * names) 0) c 0 < 2 ^ g
+      go : Dec (c < names * names) → getD (tabulate (cellByte m) (names * names) 0) c 0 < 2 ^ g
       go (yes l) =
-          rw (getD-listed (cellByte m) 0 (names * names) 0 c l)
+          rw (getD-tabulate (cellByte m) 0 (names * names) 0 c l)
           (number-within g (m .cell ((0 + c) / names) ((0 + c) % names)) rights (λ q t. K .right ((0 + c) / names) ((0 + c) % names) q t))
       go (no l) =
-          let n : length (listed (cellByte m) (names * names) 0) ≡ names * names = length-listed (cellByte m) (names * names) 0 in
-          let z : getD (listed (cellByte m) (names * names) 0) c 0 ≡ 0 = List·getD-eq-default (listed (cellByte m) (names * names) 0) 0 {n = c} (omega arith) in
+          let n : length (tabulate (cellByte m) (names * names) 0) ≡ names * names = length-tabulate (cellByte m) (names * names) 0 in
+          let z : getD (tabulate (cellByte m) (names * names) 0) c 0 ≡ 0 = List·getD-eq-default (tabulate (cellByte m) (names * names) 0) 0 {n = c} (omega arith) in
           rw z (pow-pos g)
 
   cells-outside : (s o : ℕ) → s < names → o < names → T (not (inside (kindsOf m) s o)) → getD (cellsOf m) (names * s + o) 0 ≡ 0
@@ -209,8 +209,8 @@ module _ (g : ℕ) (m : State) (K : Proper g m) where
 
   pub written-canonical : Canonical g (kindsOf m) (cellsOf m)
   written-canonical = record {
-    kinds-length = unfold kindsOf in length-listed (λ x. kindByte (m .kind x)) names 0;
-    cells-length = unfold cellsOf in length-listed (cellByte m) (names * names) 0;
+    kinds-length = unfold kindsOf in length-tabulate (λ x. kindByte (m .kind x)) names 0;
+    cells-length = unfold cellsOf in length-tabulate (cellByte m) (names * names) 0;
     kinds-fit = kinds-small;
     cells-fit = cells-small;
     outside = cells-outside;

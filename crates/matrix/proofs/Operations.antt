@@ -11,9 +11,9 @@ use lib.Dec.{T, eqb, eqb→eq, eqb-refl, T-not, not-T}
 use lib.ListN.{length, getD, set, length-set, List·getD-eq-default}
 use lib.Pow.{pow-pos}
 use lib.Seq.{getD-set-same, getD-set-other}
-use Rattle.cases.specs.Cases.{pick, turns}
+use Rattle.cases.specs.Cases.{pick, iterate}
 use Rattle.cases.proofs.Bools.{and-left, and-right, and-intro, or-cases, or-left, or-right, is-false}
-use Rattle.cases.proofs.Loops.{turns-end, turns-count}
+use Rattle.cases.proofs.Loops.{iterate-end, iterate-count}
 use Rattle.rights.specs.Rights.{has, insert, delete}
 use Rattle.rights.proofs.Sets.{has-insert-same, has-insert-other, has-delete-same, has-delete-other, has-none, insert-below, delete-below, delete-none}
 use Rattle.protection.specs.Limits.{names, rights}
@@ -27,9 +27,9 @@ use Rattle.matrix.specs.Canonical.{Canonical}
 use Rattle.matrix.proofs.Inverse.{named-below, within-inside, in-bit}
 
 -- ---- for the loop of `renewed`
-pub renewed-is : (m : Matrix) (n k j : ℕ) (cs : List ℕ) → 32 ≤ j → turns (emptied n) (32 - j) j cs ≡ turns (emptied n) 32 0 (m .cells)
+pub renewed-is : (m : Matrix) (n k j : ℕ) (cs : List ℕ) → 32 ≤ j → iterate (emptied n) (32 - j) j cs ≡ iterate (emptied n) 32 0 (m .cells)
     → _≡_ {A = Matrix} (record { kinds = set (m .kinds) n k; cells = cs }) (renewed m n k)
-renewed-is m n k j cs h e = rw (turns-end (emptied n) 32 (turns (emptied n) 32 0 (m .cells)) j cs h e)
+renewed-is m n k j cs h e = rw (iterate-end (emptied n) 32 (iterate (emptied n) 32 0 (m .cells)) j cs h e)
 
 -- ---- one place of the cells
 same-place : (s o s' o' : ℕ) → o < names → o' < names → place s o ≡ place s' o' → (s ≡ s') × (o ≡ o')
@@ -185,9 +185,9 @@ module _ (cs : List ℕ) (size : length cs ≡ names * names) (n : ℕ) (ln : n 
               go (yes q) = absurd (e (ap₂ place q (w .0)))
               go (no q) = let l = w .1 in omega arith
 
-  all-emptied : Emptied cs n names (turns (emptied n) names 0 cs)
+  all-emptied : Emptied cs n names (iterate (emptied n) names 0 cs)
   all-emptied =
-      turns-count (λ k ds. Emptied cs n k ds) (emptied n) names 0 (λ k ds _ l. one-more k ds (omega arith)) cs
+      iterate-count (λ k ds. Emptied cs n k ds) (emptied n) names 0 (λ k ds _ l. one-more k ds (omega arith)) cs
       (record {
         long = size;
         cell = λ s o ls lo h. absurd (⊎-elim (λ w. omega (arith, w .1)) (λ w. omega (arith, w .1)) h);
@@ -195,14 +195,14 @@ module _ (cs : List ℕ) (size : length cs ≡ names * names) (n : ℕ) (ln : n 
       })
 
 module _ (g : ℕ) (m : Matrix) (K : Canonical g (m .kinds) (m .cells)) (n k : ℕ) (ln : n < names) where
-  E : Emptied (m .cells) n names (turns (emptied n) names 0 (m .cells))
+  E : Emptied (m .cells) n names (iterate (emptied n) names 0 (m .cells))
   E = all-emptied (m .cells) (K .cells-length) n ln
 
   abbrev ks : List ℕ
   ks = set (m .kinds) n k
 
   abbrev cs : List ℕ
-  cs = turns (emptied n) names 0 (m .cells)
+  cs = iterate (emptied n) names 0 (m .cells)
 
   kind-at : (x : ℕ) → kindOf (getD ks x 0) ≡ pick (eqb x n) (kindOf k) (kindOf (getD (m .kinds) x 0))
   kind-at x = go (ℕ-discrete x n)

@@ -3,7 +3,7 @@ use mathlib.Core.Bool.{Bool, true, false, _&&_}
 use mathlib.Core.List.{List}
 use Prim.Native.Nat.{ℕ, zero, suc, _+_, _*_, _/_, _%_}
 use lib.ListN.{getD}
-use Rattle.cases.specs.Cases.{listed}
+use Rattle.cases.specs.Cases.{tabulate}
 use Rattle.rights.specs.Rights.{has, number}
 use Rattle.protection.specs.Limits.{names, rights}
 use Rattle.protection.specs.State.{Kind, absent, object, subject, isObject, isSubject, State}
@@ -32,11 +32,11 @@ abbrev pub view : List ℕ → List ℕ → State
 view ks cs = record { kind = λ x. kindOf (getD ks x 0); cell = rightsIn ks cs }
 
 unfoldable pub kindsOf : State → List ℕ
-kindsOf m = listed (λ x. kindByte (m .kind x)) names 0
+kindsOf m = tabulate (λ x. kindByte (m .kind x)) names 0
 
 -- a cell of the state as a byte
 abbrev pub cellByte : State → ℕ → ℕ
 cellByte m c = number (m .cell (c / names) (c % names)) rights
 
 unfoldable pub cellsOf : State → List ℕ
-cellsOf m = listed (cellByte m) (names * names) 0
+cellsOf m = tabulate (cellByte m) (names * names) 0

@@ -2,7 +2,7 @@
 use Prim.Native.Nat.{ℕ, _+_, _*_}
 use mathlib.Core.List.{List}
 use lib.ListN.{getD, set, replicate}
-use Rattle.cases.specs.Cases.{turns}
+use Rattle.cases.specs.Cases.{iterate}
 use Rattle.rights.specs.Rights.{insert, delete}
 use Rattle.protection.specs.Limits.{names}
 use Rattle.protection.specs.State.{State}
@@ -29,4 +29,4 @@ abbrev pub emptied : ℕ → ℕ → List ℕ → List ℕ
 emptied n j cs = set (set cs (place n j) 0) (place j n) 0
 
 abbrev pub renewed : Matrix → ℕ → ℕ → Matrix
-renewed m n k = record { kinds = set (m .kinds) n k; cells = turns (emptied n) names 0 (m .cells) }
+renewed m n k = record { kinds = set (m .kinds) n k; cells = iterate (emptied n) names 0 (m .cells) }

@@ -4,7 +4,7 @@ use mathlib.Core.Bool.{Bool, true, false}
 use mathlib.Core.List.{List}
 use lib.Dec.{leb, eqb}
 use lib.ListN.{getD}
-use Rattle.cases.specs.Cases.{pick, each}
+use Rattle.cases.specs.Cases.{pick, all}
 use Rattle.rights.specs.Rights.{within}
 use Rattle.protection.specs.Limits.{names}
 use Rattle.matrix.specs.Bytes.{inside}
@@ -18,4 +18,4 @@ unfoldable pub cellFits : ℕ → List ℕ → List ℕ → ℕ → Bool
 cellFits g ks cs c = pick (within (getD cs c 0) g) (pick (inside ks (c / names) (c % names)) true (eqb (getD cs c 0) 0)) false
 
 unfoldable pub matrixRefusal : ℕ → List ℕ → List ℕ → ℕ
-matrixRefusal g ks cs = pick (each (kindFits ks) names 0) (pick (each (cellFits g ks cs) (names * names) 0) 0 7) 6
+matrixRefusal g ks cs = pick (all (kindFits ks) names 0) (pick (all (cellFits g ks cs) (names * names) 0) 0 7) 6

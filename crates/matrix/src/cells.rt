@@ -2,13 +2,13 @@
 ghost use mathlib.Core.Path.{_≡_};
 ghost use Prim.Native.Nat.{_+_, _*_, _≤_, _<_};
 ghost use lib.ListN.{length};
-ghost use Rattle.cases.specs.Cases.{each};
+ghost use Rattle.cases.specs.Cases.{all};
 ghost use Rattle.protection.specs.Limits.{names, rights};
 ghost use Rattle.matrix.specs.Refusals.{kindFits, cellFits, matrixRefusal};
 use crate::Matrix;
 
 fn kinds_fit(kinds: &[u8; Matrix::NAMES]) -> bool
-    ensures { λ r. ⌜ r ≡ each (kindFits (now (kinds .entry))) names 0 ⌝ }
+    ensures { λ r. ⌜ r ≡ all (kindFits (now (kinds .entry))) names 0 ⌝ }
 {
     for x in 0..Matrix::NAMES {
         if 2 < kinds[x] {
@@ -43,7 +43,7 @@ fn cells_fit<'a>(
     cells: &'a [u8; Matrix::NAMES * Matrix::NAMES],
 ) -> bool
     requires { ⌜ g ≤ rights ⌝ }
-    ensures { λ r. ⌜ r ≡ each (cellFits g (now (kinds .entry)) (now (cells .entry))) (names * names) 0 ⌝ }
+    ensures { λ r. ⌜ r ≡ all (cellFits g (now (kinds .entry)) (now (cells .entry))) (names * names) 0 ⌝ }
 {
     for c in 0..Matrix::NAMES * Matrix::NAMES {
         if !cell_fits(g, kinds, cells, c) {

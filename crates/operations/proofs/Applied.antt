@@ -22,39 +22,39 @@ use Rattle.matrix.proofs.Inverse.{within-inside, in-bit}
 use Rattle.commands.specs.Contents.{modelOf}
 use Rattle.commands.specs.declared.Operation.{Operation}
 use Rattle.commands.specs.declared.Operation.the-variants.{Enter, Delete, CreateSubject, CreateObject, DestroySubject, DestroyObject}
-use Rattle.operations.specs.Operations.{Named, Applies, performed}
+use Rattle.operations.specs.Operations.{HasName, Applies, performed}
 
 -- ---- the parameters of an operation that is known by its case
 module _ (a : List ℕ) (op : Operation) (q s o : ℕ) (h : Applies a op) where
   pub enter-right : op ≡ Enter q s o → q < rights
   enter-right e = subst (Applies a) e h .0
 
-  pub enter-subject : op ≡ Enter q s o → Named a s
+  pub enter-subject : op ≡ Enter q s o → HasName a s
   enter-subject e = subst (Applies a) e h .1
 
-  pub enter-object : op ≡ Enter q s o → Named a o
+  pub enter-object : op ≡ Enter q s o → HasName a o
   enter-object e = subst (Applies a) e h .2
 
   pub delete-right : op ≡ Delete q s o → q < rights
   delete-right e = subst (Applies a) e h .0
 
-  pub delete-subject : op ≡ Delete q s o → Named a s
+  pub delete-subject : op ≡ Delete q s o → HasName a s
   delete-subject e = subst (Applies a) e h .1
 
-  pub delete-object : op ≡ Delete q s o → Named a o
+  pub delete-object : op ≡ Delete q s o → HasName a o
   delete-object e = subst (Applies a) e h .2
 
 module _ (a : List ℕ) (op : Operation) (s : ℕ) (h : Applies a op) where
-  pub create-subject : op ≡ CreateSubject s → Named a s
+  pub create-subject : op ≡ CreateSubject s → HasName a s
   create-subject e = subst (Applies a) e h
 
-  pub create-object : op ≡ CreateObject s → Named a s
+  pub create-object : op ≡ CreateObject s → HasName a s
   create-object e = subst (Applies a) e h
 
-  pub destroy-subject : op ≡ DestroySubject s → Named a s
+  pub destroy-subject : op ≡ DestroySubject s → HasName a s
   destroy-subject e = subst (Applies a) e h
 
-  pub destroy-object : op ≡ DestroyObject s → Named a s
+  pub destroy-object : op ≡ DestroyObject s → HasName a s
   destroy-object e = subst (Applies a) e h
 
 pub ruleset applied = (enter-right, enter-subject, enter-object, delete-right, delete-subject, delete-object, create-subject, create-object, destroy-subject, destroy-object)

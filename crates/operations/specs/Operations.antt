@@ -10,18 +10,18 @@ use Rattle.commands.specs.declared.Operation.{Operation}
 use Rattle.commands.specs.declared.Operation.the-variants.{Enter, Delete, CreateSubject, CreateObject, DestroySubject, DestroyObject}
 
 -- parameter b has a name
-pub record Named (a : List ℕ) (b : ℕ) : Type 0 where
+pub record HasName (a : List ℕ) (b : ℕ) : Type 0 where
   pub parameter : b < parameters
   pub name : getD a b 0 < names
 
 -- the operation's right is one that a cell can hold, and its parameters have names
 abbrev pub Applies : List ℕ → Operation → Type 0
-Applies a (Enter q s o) = (q < rights) × Named a s × Named a o
-Applies a (Delete q s o) = (q < rights) × Named a s × Named a o
-Applies a (CreateSubject s) = Named a s
-Applies a (CreateObject o) = Named a o
-Applies a (DestroySubject s) = Named a s
-Applies a (DestroyObject o) = Named a o
+Applies a (Enter q s o) = (q < rights) × HasName a s × HasName a o
+Applies a (Delete q s o) = (q < rights) × HasName a s × HasName a o
+Applies a (CreateSubject s) = HasName a s
+Applies a (CreateObject o) = HasName a o
+Applies a (DestroySubject s) = HasName a s
+Applies a (DestroyObject o) = HasName a o
 
 abbrev pub performed : Matrix → Actuals → Operation → Matrix
 performed m a (Enter q s o) = entered m q (a s) (a o)

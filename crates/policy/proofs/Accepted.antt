@@ -5,7 +5,7 @@ use mathlib.Core.Bool.{true}
 use mathlib.Core.List.{List}
 use native.Mathlib.Decide.{ℕ-discrete}
 use native.Mathlib.Omega.{arith}
-use Rattle.cases.specs.Cases.{each}
+use Rattle.cases.specs.Cases.{all}
 use Rattle.protection.specs.Limits.{names}
 use Rattle.layout.specs.File.{rightsOf, kindsIn, cellsIn, commandIn, commandsOf}
 use Rattle.layout.specs.Refusals.{headerRefusal, pairsRefusal, sizesRefusal}
@@ -15,11 +15,11 @@ use Rattle.commands.proofs.Accepted.{CommandFits, command-accepted}
 use Rattle.matrix.specs.Refusals.{kindFits, cellFits, matrixRefusal}
 use Rattle.policy.specs.Refusals.{commandsRefusal, refusal}
 
-pub matrix-accepted : (g : ℕ) (ks cs : List ℕ) → matrixRefusal g ks cs ≡ 0 → (each (kindFits ks) names 0 ≡ true) × (each (cellFits g ks cs) (names * names) 0 ≡ true)
+pub matrix-accepted : (g : ℕ) (ks cs : List ℕ) → matrixRefusal g ks cs ≡ 0 → (all (kindFits ks) names 0 ≡ true) × (all (cellFits g ks cs) (names * names) 0 ≡ true)
 unfolding matrixRefusal
 matrix-accepted g ks cs e =
-    let t1 = held (each (kindFits ks) names 0) 5 _ e in
-    let t2 = held (each (cellFits g ks cs) (names * names) 0) 6 _ (t1 .1) in
+    let t1 = held (all (kindFits ks) names 0) 5 _ e in
+    let t2 = held (all (cellFits g ks cs) (names * names) 0) 6 _ (t1 .1) in
     (t1 .0, t2 .0)
 
 pub commands-accepted : (f : List ℕ) (n i : ℕ) → commandsRefusal f n i ≡ 0 → (j : ℕ) → i ≤ j → j < i + n → commandRefusal (rightsOf f) (commandIn f j) ≡ 0

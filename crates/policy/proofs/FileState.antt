@@ -10,9 +10,9 @@ use lib.Dec.{T, leb, eqb, ltb, T-not}
 use lib.ListN.{length, getD, take, drop, length-drop, take-append-drop, List·getD-eq-default}
 use lib.Pow.{pow-pos}
 use lib.Seq.{length-take-le, drop-drop}
-use Rattle.cases.specs.Cases.{pick, each}
-use Rattle.cases.proofs.Lists.{getD-listed}
-use Rattle.cases.proofs.Loops.{each-at}
+use Rattle.cases.specs.Cases.{pick, all}
+use Rattle.cases.proofs.Lists.{getD-tabulate}
+use Rattle.cases.proofs.Loops.{all-at}
 use Rattle.rights.specs.Rights.{within}
 use Rattle.protection.specs.Limits.{names, rights, commands}
 use Rattle.protection.specs.State.{State}
@@ -75,14 +75,14 @@ module _ (f : List ℕ) (A : Accepted f) where
   kind-fits x = go (decLt x names)
     where
       go : Dec (x < names) → getD (kindsIn f) x 0 ≤ 2
-      go (yes l) = leb-true (byte (kindsIn f) x) 2 (each-at (kindFits (kindsIn f)) names 0 (matrix-accepted (rightsOf f) (kindsIn f) (cellsIn f) (A .matrix) .0) x (omega arith) (omega arith))
+      go (yes l) = leb-true (byte (kindsIn f) x) 2 (all-at (kindFits (kindsIn f)) names 0 (matrix-accepted (rightsOf f) (kindsIn f) (cellsIn f) (A .matrix) .0) x (omega arith) (omega arith))
       go (no l) =
           let e = kinds-length in
           let z : getD (kindsIn f) x 0 ≡ 0 = List·getD-eq-default (kindsIn f) 0 {n = x} (omega arith) in
           rw z (omega arith)
 
   cell-at : (c : ℕ) → c < names * names → cellFits (rightsOf f) (kindsIn f) (cellsIn f) c ≡ true
-  cell-at c l = each-at (cellFits (rightsOf f) (kindsIn f) (cellsIn f)) (names * names) 0 (matrix-accepted (rightsOf f) (kindsIn f) (cellsIn f) (A .matrix) .1) c (omega arith) (omega arith)
+  cell-at c l = all-at (cellFits (rightsOf f) (kindsIn f) (cellsIn f)) (names * names) 0 (matrix-accepted (rightsOf f) (kindsIn f) (cellsIn f) (A .matrix) .1) c (omega arith) (omega arith)
 
   cell-fits : (c : ℕ) → getD (cellsIn f) c 0 < 2 ^ rightsOf f
   cell-fits c = go (decLt c (names * names))
@@ -134,5 +134,5 @@ policy-fits f A = record {
   where
     at : (i : ℕ) → i < commandsOf f → getD (commandTable f (commandsOf f)) i missing ≡ commandOf (commandIn f i)
     at i l =
-        getD-listed (λ j. pick (ltb j (commandsOf f)) (commandOf (commandIn f j)) noCommand) missing commands 0 i (omega (arith, A .header .few-pairs))
+        getD-tabulate (λ j. pick (ltb j (commandsOf f)) (commandOf (commandIn f j)) noCommand) missing commands 0 i (omega (arith, A .header .few-pairs))
         ∙ rw (lt-ltb (0 + i) (commandsOf f) (omega arith)) (ap (λ (j : ℕ). commandOf (commandIn f j)) (omega arith))

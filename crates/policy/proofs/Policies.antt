@@ -10,8 +10,8 @@ use borrow.Author.Tests.{ne-eqb, eq-eqb, lt-ltb, le-ltb}
 use lib.Dec.{eqb, ltb}
 use lib.ListN.{length, getD, take, drop, set, replicate, length-drop, length-replicate, length-set, drop-of-length-le}
 use lib.Seq.{take-length, length-take-le, ext-getD, getD-set-same, getD-set-other}
-use Rattle.cases.specs.Cases.{pick, listed}
-use Rattle.cases.proofs.Lists.{length-listed, getD-listed}
+use Rattle.cases.specs.Cases.{pick, tabulate}
+use Rattle.cases.proofs.Lists.{length-tabulate, getD-tabulate}
 use Rattle.protection.specs.Limits.{names, commands}
 use Rattle.matrix.specs.Matrices.{emptyMatrix}
 use Rattle.matrix.specs.declared.Matrix.{Matrix}
@@ -22,7 +22,7 @@ use Rattle.matrix.specs.Refusals.{matrixRefusal}
 use Rattle.policy.specs.Refusals.{commandsRefusal, refusal}
 use Rattle.policy.specs.Layout.{MatrixInside, CommandsInside}
 use Rattle.commands.specs.Contents.{noCommand, commandOf, commandRead}
-use Rattle.policy.specs.Contents.{noPolicy, commandTable, commandsRead, matrixOf, policyOf, refusedRead, policyRead}
+use Rattle.policy.specs.Contents.{noPolicy, commandTable, commandsRead, matrixIn, policyOf, refusedRead, policyRead}
 use Rattle.layout.proofs.Accepted.{HeaderFits, header-accepted, pairs-accepted, sizes-accepted}
 use Rattle.commands.specs.declared.Command.{Command}
 use Rattle.commands.specs.declared.CommandRead.{CommandRead}
@@ -51,7 +51,7 @@ copied f x i w n d e h q =
 pub matrix-is : (f x y : List ℕ) (w v : ℕ) → MatrixInside f → w ≡ word f 2 → v ≡ word f 6
     → x ≡ take (length (take (w + 32 - w) (drop w f))) (take (w + 32 - w) (drop w f)) ++ drop (length (take (w + 32 - w) (drop w f))) (replicate 32 0)
     → y ≡ take (length (take (v + 1024 - v) (drop v f))) (take (v + 1024 - v) (drop v f)) ++ drop (length (take (v + 1024 - v) (drop v f))) (replicate 1024 0)
-    → _≡_ {A = Matrix} (record { kinds = x; cells = y }) (matrixOf f)
+    → _≡_ {A = Matrix} (record { kinds = x; cells = y }) (matrixIn f)
 matrix-is f x y w v h dw dv ex ey =
     let ks = h .kinds-size in let cs = h .cells-size in let ke = h .kinds-end in let ce = h .cells-end in
     let a : x ≡ section f 0 = copied f x 0 w 32 dw ks (omega arith) ex in
@@ -69,28 +69,28 @@ table-start f c e = rw e
 table-set : (f : List ℕ) (i : ℕ) → i < commands → set (commandTable f i) i (commandOf (commandIn f i)) ≡ commandTable f (i + 1)
 unfolding commandTable
 table-set f i h =
-    ext-getD noCommand (set (listed (tableAt f i) commands 0) i (commandOf (commandIn f i))) (listed (tableAt f (i + 1)) commands 0)
-    (length-set (listed (tableAt f i) commands 0) i (commandOf (commandIn f i)) ∙ length-listed (tableAt f i) commands 0 ∙ sym (length-listed (tableAt f (i + 1)) commands 0))
-    (λ j l. at j (omega (arith, length-set (listed (tableAt f i) commands 0) i (commandOf (commandIn f i)), length-listed (tableAt f i) commands 0)) (decLt j i) (decLt i j))
+    ext-getD noCommand (set (tabulate (tableAt f i) commands 0) i (commandOf (commandIn f i))) (tabulate (tableAt f (i + 1)) commands 0)
+    (length-set (tabulate (tableAt f i) commands 0) i (commandOf (commandIn f i)) ∙ length-tabulate (tableAt f i) commands 0 ∙ sym (length-tabulate (tableAt f (i + 1)) commands 0))
+    (λ j l. at j (omega (arith, length-set (tabulate (tableAt f i) commands 0) i (commandOf (commandIn f i)), length-tabulate (tableAt f i) commands 0)) (decLt j i) (decLt i j))
   where
-    long : length (listed (tableAt f i) commands 0) ≡ commands
-    long = length-listed (tableAt f i) commands 0
+    long : length (tabulate (tableAt f i) commands 0) ≡ commands
+    long = length-tabulate (tableAt f i) commands 0
 
     at : (j : ℕ) → j < commands → Dec (j < i) → Dec (i < j)
-        → getD (set (listed (tableAt f i) commands 0) i (commandOf (commandIn f i))) j noCommand ≡ getD (listed (tableAt f (i + 1)) commands 0) j noCommand
+        → getD (set (tabulate (tableAt f i) commands 0) i (commandOf (commandIn f i))) j noCommand ≡ getD (tabulate (tableAt f (i + 1)) commands 0) j noCommand
     at j l (yes a) b =
-        getD-set-other (listed (tableAt f i) commands 0) i j (commandOf (commandIn f i)) noCommand (λ e. omega arith)
-        ∙ getD-listed (tableAt f i) noCommand commands 0 j l
-        ∙ rw (lt-ltb (0 + j) i (omega arith), getD-listed (tableAt f (i + 1)) noCommand commands 0 j l, lt-ltb (0 + j) (i + 1) (omega arith))
+        getD-set-other (tabulate (tableAt f i) commands 0) i j (commandOf (commandIn f i)) noCommand (λ e. omega arith)
+        ∙ getD-tabulate (tableAt f i) noCommand commands 0 j l
+        ∙ rw (lt-ltb (0 + j) i (omega arith), getD-tabulate (tableAt f (i + 1)) noCommand commands 0 j l, lt-ltb (0 + j) (i + 1) (omega arith))
     at j l (no a) (yes b) =
-        getD-set-other (listed (tableAt f i) commands 0) i j (commandOf (commandIn f i)) noCommand (λ e. omega arith)
-        ∙ getD-listed (tableAt f i) noCommand commands 0 j l
-        ∙ rw (le-ltb (0 + j) i (omega arith), getD-listed (tableAt f (i + 1)) noCommand commands 0 j l, le-ltb (0 + j) (i + 1) (omega arith))
+        getD-set-other (tabulate (tableAt f i) commands 0) i j (commandOf (commandIn f i)) noCommand (λ e. omega arith)
+        ∙ getD-tabulate (tableAt f i) noCommand commands 0 j l
+        ∙ rw (le-ltb (0 + j) i (omega arith), getD-tabulate (tableAt f (i + 1)) noCommand commands 0 j l, le-ltb (0 + j) (i + 1) (omega arith))
     at j l (no a) (no b) =
         let e : j ≡ i = omega arith in
         let z : 0 + i ≡ i = omega arith in
-        rw e (getD-set-same (listed (tableAt f i) commands 0) i (commandOf (commandIn f i)) noCommand (omega (arith, long))
-        ∙ sym (getD-listed (tableAt f (i + 1)) noCommand commands 0 i h ∙ rw (lt-ltb (0 + i) (i + 1) (omega arith), z)))
+        rw e (getD-set-same (tabulate (tableAt f i) commands 0) i (commandOf (commandIn f i)) noCommand (omega (arith, long))
+        ∙ sym (getD-tabulate (tableAt f (i + 1)) noCommand commands 0 i h ∙ rw (lt-ltb (0 + i) (i + 1) (omega arith), z)))
 
 -- ---- one turn of the reader's loop
 pub part-is : (f : List ℕ) (g i w v : ℕ) (x : CommandRead) → w ≡ offsetOf f (2 + i) → v ≡ lengthOf f (2 + i) → x ≡ commandRead g (take (w + v - w) (drop w f)) → x ≡ commandRead g (commandIn f i)
@@ -191,10 +191,10 @@ module _ (f : List ℕ) (h : ℕ) (dh : h ≡ headerRefusal f) where
                 let k = header-fits .few-pairs in let l = header-fits .table in
                 record {
                   few = omega arith;
-                  each = λ i lt. record { pair = omega arith; end = pairs-accepted f pairs-none (2 + i) (omega arith) };
+                  all = λ i lt. record { pair = omega arith; end = pairs-accepted f pairs-none (2 + i) (omega arith) };
                 }
 
-            module _ (m : Matrix) (c : ℕ) (dm : m ≡ matrixOf f) (dc : c ≡ matrixRefusal (rightsOf f) (m .kinds) (m .cells)) where
+            module _ (m : Matrix) (c : ℕ) (dm : m ≡ matrixIn f) (dc : c ≡ matrixRefusal (rightsOf f) (m .kinds) (m .cells)) where
               matrix-is-none : c ≡ matrixRefusal (rightsOf f) (kindsIn f) (cellsIn f)
               matrix-is-none = dc ∙ ap (λ (z : Matrix). matrixRefusal (rightsOf f) (z .kinds) (z .cells)) dm
 

@@ -9,9 +9,9 @@ use borrow.Author.Tests.{le-leb, le-ltb, lt-ltb, eq-eqb}
 use lib.Dec.{T, leb, eqb, ltb}
 use lib.ListN.{length, getD, take, drop, length-drop, length-append, take-append-drop, List·getD-append}
 use lib.Seq.{length-take-le, drop-at, take-at, drop-drop, getD-take, drop-append-le, take-append-le}
-use Rattle.cases.specs.Cases.{pick, each, listed}
-use Rattle.cases.proofs.Loops.{each-all, each-same}
-use Rattle.cases.proofs.Lists.{listed-same}
+use Rattle.cases.specs.Cases.{pick, all, tabulate}
+use Rattle.cases.proofs.Loops.{all-of, all-same}
+use Rattle.cases.proofs.Lists.{tabulate-same}
 use Rattle.rights.specs.Rights.{within}
 use Rattle.protection.specs.Limits.{names, rights, commands, fileBytes}
 use Rattle.protection.specs.State.{State}
@@ -21,7 +21,7 @@ use Rattle.protection.specs.Proper.{Proper}
 use Rattle.matrix.specs.Canonical.{Canonical}
 use Rattle.matrix.proofs.Inverse.{view-back, written-canonical}
 use Rattle.layout.specs.File.{byte, word, rightsOf, pairsOf, offsetOf, lengthOf, pairsEnd, startOf, section, kindsIn, cellsIn, commandIn, commandsOf}
-use Rattle.layout.specs.Refusals.{orElse, headerRefusal, placed, pairsRefusal, sizesRefusal}
+use Rattle.layout.specs.Refusals.{orElse, headerRefusal, inPlace, pairsRefusal, sizesRefusal}
 use Rattle.commands.specs.Refusals.{commandRefusal}
 use Rattle.matrix.specs.Refusals.{kindFits, cellFits, matrixRefusal}
 use Rattle.policy.specs.Refusals.{commandsRefusal, refusal}
@@ -185,9 +185,9 @@ module _ (f : List ℕ) (A : Accepted f) (m : State) (P : Proper (rightsOf f) m)
   pairs-refusal-stays : pairsRefusal (written f m) ≡ pairsRefusal f
   unfolding pairsRefusal
   pairs-refusal-stays =
-      let a : each (placed (written f m)) (pairsOf (written f m)) 0 ≡ each (placed f) (pairsOf f) 0 =
-      ap (λ (n : ℕ). each (placed (written f m)) n 0) pairs-stay
-      ∙ each-same (placed (written f m)) (placed f) (pairsOf f) 0 (λ i _ l. ap₂ eqb (offset-stays i (omega arith)) (start-stays i (omega arith))) in
+      let a : all (inPlace (written f m)) (pairsOf (written f m)) 0 ≡ all (inPlace f) (pairsOf f) 0 =
+      ap (λ (n : ℕ). all (inPlace (written f m)) n 0) pairs-stay
+      ∙ all-same (inPlace (written f m)) (inPlace f) (pairsOf f) 0 (λ i _ l. ap₂ eqb (offset-stays i (omega arith)) (start-stays i (omega arith))) in
       let b : startOf (written f m) (pairsOf (written f m)) ≡ startOf f (pairsOf f) = ap (startOf (written f m)) pairs-stay ∙ start-stays (pairsOf f) (omega arith) in
       rw (a, b, rewritten-length)
 
@@ -198,9 +198,9 @@ module _ (f : List ℕ) (A : Accepted f) (m : State) (P : Proper (rightsOf f) m)
   matrix-fits : matrixRefusal (rightsOf (written f m)) (kindsIn (written f m)) (cellsIn (written f m)) ≡ 0
   unfolding matrixRefusal cellFits
   matrix-fits =
-      let a : each (kindFits (kindsOf m)) names 0 ≡ true = each-all (kindFits (kindsOf m)) names 0 (λ x _ _. le-leb (byte (kindsOf m) x) 2 (K .kinds-fit x)) in
-      let b : each (cellFits (rightsOf f) (kindsOf m) (cellsOf m)) (names * names) 0 ≡ true =
-      each-all (cellFits (rightsOf f) (kindsOf m) (cellsOf m)) (names * names) 0 (λ c _ l. cell c (omega arith)) in
+      let a : all (kindFits (kindsOf m)) names 0 ≡ true = all-of (kindFits (kindsOf m)) names 0 (λ x _ _. le-leb (byte (kindsOf m) x) 2 (K .kinds-fit x)) in
+      let b : all (cellFits (rightsOf f) (kindsOf m) (cellsOf m)) (names * names) 0 ≡ true =
+      all-of (cellFits (rightsOf f) (kindsOf m) (cellsOf m)) (names * names) 0 (λ c _ l. cell c (omega arith)) in
       rw (rights-stay, kinds-written, cells-written, a, b)
     where
       cell : (c : ℕ) → c < names * names → cellFits (rightsOf f) (kindsOf m) (cellsOf m) c ≡ true
@@ -228,8 +228,8 @@ module _ (f : List ℕ) (A : Accepted f) (m : State) (P : Proper (rightsOf f) m)
   table-stays : commandTable (written f m) (commandsOf (written f m)) ≡ commandTable f (commandsOf f)
   unfolding commandTable
   table-stays =
-      ap (λ (n : ℕ). listed (λ i. pick (ltb i n) (commandOf (commandIn (written f m) i)) noCommand) commands 0) commands-stay
-      ∙ listed-same (λ i. pick (ltb i (commandsOf f)) (commandOf (commandIn (written f m) i)) noCommand) (λ i. pick (ltb i (commandsOf f)) (commandOf (commandIn f i)) noCommand) commands 0
+      ap (λ (n : ℕ). tabulate (λ i. pick (ltb i n) (commandOf (commandIn (written f m) i)) noCommand) commands 0) commands-stay
+      ∙ tabulate-same (λ i. pick (ltb i (commandsOf f)) (commandOf (commandIn (written f m) i)) noCommand) (λ i. pick (ltb i (commandsOf f)) (commandOf (commandIn f i)) noCommand) commands 0
       (λ i _ _. go i (decLt i (commandsOf f)))
     where
       go : (i : ℕ) → Dec (i < commandsOf f) → pick (ltb i (commandsOf f)) (commandOf (commandIn (written f m) i)) noCommand ≡ pick (ltb i (commandsOf f)) (commandOf (commandIn f i)) noCommand

@@ -3,7 +3,7 @@ use Prim.Native.Nat.{ℕ, _+_}
 use mathlib.Core.List.{List, _++_}
 use lib.ListN.{length, getD, take, drop, replicate}
 use lib.Dec.{eqb, ltb}
-use Rattle.cases.specs.Cases.{pick, listed}
+use Rattle.cases.specs.Cases.{pick, tabulate}
 use Rattle.protection.specs.Limits.{commands}
 use Rattle.protection.specs.State.{State}
 use Rattle.protection.specs.Command.{System}
@@ -24,20 +24,20 @@ noPolicy = record { rights = 0; commands = 0; matrix = emptyMatrix; command = re
 
 -- the first n commands, and none in the places behind them
 unfoldable pub commandTable : List ℕ → ℕ → List Command
-commandTable f n = listed (λ i. pick (ltb i n) (commandOf (commandIn f i)) noCommand) commands 0
+commandTable f n = tabulate (λ i. pick (ltb i n) (commandOf (commandIn f i)) noCommand) commands 0
 
 unfoldable pub commandsRead : List ℕ → ℕ → CommandsRead
 commandsRead f n = record { refused = commandsRefusal f n 0; all = pick (eqb (commandsRefusal f n 0) 0) (commandTable f n) (replicate commands noCommand) }
 
-abbrev pub matrixOf : List ℕ → Matrix
-matrixOf f = record { kinds = kindsIn f; cells = cellsIn f }
+abbrev pub matrixIn : List ℕ → Matrix
+matrixIn f = record { kinds = kindsIn f; cells = cellsIn f }
 
 unfoldable pub policyOf : List ℕ → Policy
 policyOf f =
     record {
       rights = rightsOf f;
       commands = commandsOf f;
-      matrix = matrixOf f;
+      matrix = matrixIn f;
       command = commandTable f (commandsOf f);
     }
 
@@ -50,7 +50,7 @@ policyRead f = pick (eqb (refusal f) 0) (record { refused = 0; policy = policyOf
 
 -- ---- what they stand for
 abbrev pub systemOf : Policy → System
-systemOf p = record { rights = p .rights; commands = listed (λ i. meaning (getD (p .command) i missing)) (p .commands) 0 }
+systemOf p = record { rights = p .rights; commands = tabulate (λ i. meaning (getD (p .command) i missing)) (p .commands) 0 }
 
 -- the machine's state and its commands, of a file
 abbrev pub fileState : List ℕ → State

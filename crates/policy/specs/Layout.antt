@@ -19,4 +19,4 @@ pub record CommandInside (f : List ℕ) (i : ℕ) : Type 0 where
 
 pub record CommandsInside (f : List ℕ) (n : ℕ) : Type 0 where
   pub few : n ≤ commands
-  pub each : (i : ℕ) → i < n → CommandInside f i
+  pub all : (i : ℕ) → i < n → CommandInside f i

@@ -4,7 +4,7 @@ ghost use Prim.Native.Nat.{_+_, _*_, _≤_, _<_};
 ghost use lib.ListN.{length, getD};
 ghost use Rattle.protection.specs.Limits.{commands};
 ghost use Rattle.layout.specs.File.{rightsOf, commandIn};
-ghost use Rattle.policy.specs.Contents.{matrixOf, commandsRead, noPolicy, refusedRead, policyRead};
+ghost use Rattle.policy.specs.Contents.{matrixIn, commandsRead, noPolicy, refusedRead, policyRead};
 ghost use Rattle.commands.specs.Contents.{missing, commandRead};
 ghost use Rattle.policy.specs.Layout.{MatrixInside, CommandInside, CommandsInside};
 use commands::Command;
@@ -56,7 +56,7 @@ impl Policy {
 // A copy of the kinds and the cells.
 fn matrix_of(file: &[u8]) -> Matrix
     requires { ⌜ MatrixInside (now file) ⌝ }
-    ensures { λ r. ⌜ r ≡ matrixOf (now (file .entry)) ⌝ }
+    ensures { λ r. ⌜ r ≡ matrixIn (now (file .entry)) ⌝ }
 {
     let k = layout::word_at(file, 2);
     let k_end = k + Matrix::NAMES;

@@ -9,9 +9,9 @@ use native.Mathlib.Omega.{arith}
 use borrow.Author.Tests.{lt-ltb}
 use lib.Dec.{T, ltb→lt}
 use lib.ListN.{getElem?}
-use Rattle.cases.specs.Cases.{each}
+use Rattle.cases.specs.Cases.{all}
 use Rattle.cases.proofs.Bools.{and-left, and-right, and-intro}
-use Rattle.cases.proofs.Loops.{each-one}
+use Rattle.cases.proofs.Loops.{all-one}
 use Rattle.protection.specs.Limits.{names, parameters}
 use Rattle.protection.specs.State.{State}
 use Rattle.protection.specs.Command.{Condition, Operation, enter, delete, createSubject, createObject, destroySubject, destroyObject, Command, System, Call, Actuals, actuals}
@@ -56,17 +56,17 @@ has-below S singles C c H = subst (OperationBelow (C .parameters) (S .rights)) (
 -- ---- what a call needs to be carried out
 -- its spare parameters exist and its conditions hold
 abbrev pub ready : Command → State → Actuals → Bool
-ready C m a = each (spareExists C m a) (C .parameters) 0 && holdAll m a (C .conditions)
+ready C m a = all (spareExists C m a) (C .parameters) 0 && holdAll m a (C .conditions)
 
 pub record Carried (nameable : ℕ → Bool) (C : Command) (m : State) (a : Actuals) : Type 0 where
-  pub fits : T (each (actualFits nameable (C .parameters) a) parameters 0)
+  pub fits : T (all (actualFits nameable (C .parameters) a) parameters 0)
   pub able : T (ready C m a)
   pub can : T (canDo m a (operationIn C))
 
 -- bounded names: a parameter's name is below 32
 pub carried-small : (g : ℕ) (C : Command) → Single g C → (m : State) (a : Actuals) → Carried bounded C m a → (b : ℕ) → b < C .parameters → a b < names
 carried-small g C F m a K b l =
-    let t : T (actualFits bounded (C .parameters) a b) = each-one (actualFits bounded (C .parameters) a) parameters 0 (K .fits) b (omega arith) (omega (arith, F .few)) in
+    let t : T (actualFits bounded (C .parameters) a b) = all-one (actualFits bounded (C .parameters) a) parameters 0 (K .fits) b (omega arith) (omega (arith, F .few)) in
     ltb→lt (a b) names (rw (lt-ltb b (C .parameters) l) at t)
 
 -- ---- what it comes to
@@ -89,11 +89,11 @@ module _ (S : System) (singles : Singles S) (nameable : ℕ → Bool) (m : State
       go none e = no-run 11
       go (some C) e =
           let F = singles (x .command) C e in
-          gates-elim P (each (actualFits nameable (C .parameters) a) parameters 0) (each (spareExists C m a) (C .parameters) 0) (holdAll m a (C .conditions)) (canDoAll m a (C .operations))
+          gates-elim P (all (actualFits nameable (C .parameters) a) parameters 0) (all (spareExists C m a) (C .parameters) 0) (holdAll m a (C .conditions)) (canDoAll m a (C .operations))
           (done (effectAll m a (C .operations)) (entersAnyNew m a (C .operations))) no-run
           (λ fit spare hold can. subst P (sym (alone C F)) (run C e (record {
             fits = fit;
-            able = and-intro (each (spareExists C m a) (C .parameters) 0) (holdAll m a (C .conditions)) spare hold;
+            able = and-intro (all (spareExists C m a) (C .parameters) 0) (holdAll m a (C .conditions)) spare hold;
             can = and-left (canDo m a (operationIn C)) true (rw (F .one-operation) at can);
           })))
 
@@ -102,10 +102,10 @@ module _ (S : System) (singles : Singles S) (nameable : ℕ → Bool) (m : State
     call-done K =
         let F = singles (x .command) C found in
         ap (λ (w : Option Command). executeCommand nameable m w a) found
-        ∙ gates-open (each (actualFits nameable (C .parameters) a) parameters 0) (each (spareExists C m a) (C .parameters) 0) (holdAll m a (C .conditions)) (canDoAll m a (C .operations))
+        ∙ gates-open (all (actualFits nameable (C .parameters) a) parameters 0) (all (spareExists C m a) (C .parameters) 0) (holdAll m a (C .conditions)) (canDoAll m a (C .operations))
         (done (effectAll m a (C .operations)) (entersAnyNew m a (C .operations))) (K .fits)
-        (and-left (each (spareExists C m a) (C .parameters) 0) (holdAll m a (C .conditions)) (K .able))
-        (and-right (each (spareExists C m a) (C .parameters) 0) (holdAll m a (C .conditions)) (K .able))
+        (and-left (all (spareExists C m a) (C .parameters) 0) (holdAll m a (C .conditions)) (K .able))
+        (and-right (all (spareExists C m a) (C .parameters) 0) (holdAll m a (C .conditions)) (K .able))
         (rw (F .one-operation) (and-intro (canDo m a (operationIn C)) true (K .can) tt))
         ∙ alone C F
 

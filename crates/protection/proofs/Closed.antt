@@ -7,9 +7,9 @@ use mathlib.Core.Logic.{_⊎_, inl, inr, ⊎-elim}
 use Prim.Native.Nat.{ℕ, _<_}
 use native.Mathlib.Nat.{zero-add}
 use lib.Dec.{T, eqb, eqb→eq, eqb-refl, T-not, not-T}
-use Rattle.cases.specs.Cases.{pick, each}
+use Rattle.cases.specs.Cases.{pick, all}
 use Rattle.cases.proofs.Bools.{and-left, and-right, and-intro, both, or-cases, or-right, or-map, is-false}
-use Rattle.cases.proofs.Loops.{each-map}
+use Rattle.cases.proofs.Loops.{all-map}
 use Rattle.protection.specs.State.{Kind, absent, object, subject, isObject, isSubject, State, objectIn, subjectIn}
 use Rattle.protection.specs.Command.{Condition, Operation, enter, delete, createSubject, createObject, destroySubject, destroyObject, Command, System, Call, Actuals, actuals, named}
 use Rattle.protection.specs.Execution.{unbounded, holds, holdAll, spareExists, canDo, sameCell, put, takeOut, renew, effect, entersNew, Outcome, done, execute}
@@ -39,16 +39,16 @@ module _ (m M : State) (f : ℕ → ℕ) (h : Maps m M f) (a b : Actuals) (k : �
       and-intro (holds M b c) (holdAll M b cs)
       (holds-to c (l .0) (l .1) (and-left (holds m a c) (holdAll m a cs) t)) (hold-all-to cs (l .2) (and-right (holds m a c) (holdAll m a cs) t))
 
-  spare-to : (C : Command) → T (each (spareExists C m a) k 0) → T (each (spareExists C M b) k 0)
-  spare-to C = each-map (spareExists C m a) (spareExists C M b) k 0
+  spare-to : (C : Command) → T (all (spareExists C m a) k 0) → T (all (spareExists C M b) k 0)
+  spare-to C = all-map (spareExists C m a) (spareExists C M b) k 0
       (λ i _ l. or-map (named C i) (objectIn m (a i)) (objectIn M (b i)) (λ t. rw (e i (rw zero-add at l)) (h .object-to (a i) t)))
 
 pub ready-to : (g : ℕ) (C : Command) → Single g C → (m M : State) (f : ℕ → ℕ) → Maps m M f → (a b : Actuals) → ((i : ℕ) → i < C .parameters → b i ≡ f (a i))
     → T (ready C m a) → T (ready C M b)
 ready-to g C F m M f h a b e t =
-    and-intro (each (spareExists C M b) (C .parameters) 0) (holdAll M b (C .conditions))
-    (spare-to m M f h a b (C .parameters) e C (and-left (each (spareExists C m a) (C .parameters) 0) (holdAll m a (C .conditions)) t))
-    (hold-all-to m M f h a b (C .parameters) e (C .conditions) (F .conditions-fit) (and-right (each (spareExists C m a) (C .parameters) 0) (holdAll m a (C .conditions)) t))
+    and-intro (all (spareExists C M b) (C .parameters) 0) (holdAll M b (C .conditions))
+    (spare-to m M f h a b (C .parameters) e C (and-left (all (spareExists C m a) (C .parameters) 0) (holdAll m a (C .conditions)) t))
+    (hold-all-to m M f h a b (C .parameters) e (C .conditions) (F .conditions-fit) (and-right (all (spareExists C m a) (C .parameters) 0) (holdAll m a (C .conditions)) t))
 
 pub maps-self : (m : State) → Maps m m (λ x. x)
 maps-self m = record { subject-to = λ x t. t; object-to = λ x t. t; cell-to = λ x y q _ _ t. t }

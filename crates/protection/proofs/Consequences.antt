@@ -9,7 +9,7 @@ use borrow.Author.Tests.{lt-ltb}
 use lib.Dec.{T, T-not}
 use lib.ListN.{getElem?}
 use Rattle.cases.proofs.Bools.{or-cases}
-use Rattle.cases.proofs.Loops.{each-one}
+use Rattle.cases.proofs.Loops.{all-one}
 use Rattle.protection.specs.Limits.{parameters}
 use Rattle.protection.specs.State.{State, objectIn}
 use Rattle.protection.specs.Size.{stepBound}
@@ -38,13 +38,13 @@ module _ (nameable : ℕ → Bool) (S : System) (m : State) (x : Call) (C : Comm
   -- each parameter gets a name
   pub admitted-name : C .parameters ≤ parameters → (b : ℕ) → b < C .parameters → T (nameable (actuals x b))
   admitted-name few b l =
-      let t : T (actualFits nameable (C .parameters) (actuals x) b) = each-one (actualFits nameable (C .parameters) (actuals x)) parameters 0 (A .fit) b (omega arith) (omega arith) in
+      let t : T (actualFits nameable (C .parameters) (actuals x) b) = all-one (actualFits nameable (C .parameters) (actuals x)) parameters 0 (A .fit) b (omega arith) (omega arith) in
       rw (lt-ltb b (C .parameters) l) at t
 
   -- and one that nothing names an existing one
   pub admitted-spare : (b : ℕ) → b < C .parameters → T (not (named C b)) → T (objectIn m (actuals x b))
   admitted-spare b l unnamed =
-      let t : T (spareExists C m (actuals x) b) = each-one (spareExists C m (actuals x)) (C .parameters) 0 (A .spare) b (omega arith) (omega arith) in
+      let t : T (spareExists C m (actuals x) b) = all-one (spareExists C m (actuals x)) (C .parameters) 0 (A .spare) b (omega arith) (omega arith) in
       ⊎-elim (λ n. absurd (T-not (named C b) unnamed n)) (λ e. e) (or-cases (named C b) (objectIn m (actuals x b)) t)
 
 module _ (nameable : ℕ → Bool) (S : System) (m : State) (x : Call) (A : Agrees nameable S m x) where

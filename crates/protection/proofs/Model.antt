@@ -8,7 +8,7 @@ use Prim.Native.Nat.{ℕ}
 use native.Mathlib.Omega.{arith}
 use lib.Dec.{T, eqb, eqb→eq, eqb-refl, T-not, not-T}
 use lib.ListN.{getElem?}
-use Rattle.cases.specs.Cases.{pick, each}
+use Rattle.cases.specs.Cases.{pick, all}
 use Rattle.cases.proofs.Bools.{and-left, and-right, and-intro, both, is-true, is-false, holds as test-holds, fails}
 use Rattle.protection.specs.Limits.{parameters}
 use Rattle.protection.specs.State.{Kind, absent, object, subject, isObject, isSubject, State, objectIn, subjectIn}
@@ -361,7 +361,7 @@ module _ (nameable : ℕ → Bool) (S : System) (m : State) (x : Call) where
       go none e = λ d. absurd (not-both m' new 11 (sym d))
       go (some C) e =
           gates-elim (λ o. o ≡ done m' new → (C : Command) × Admitted nameable S m x C × Executes C a (configuration m) (configuration m'))
-          (each (actualFits nameable (C .parameters) a) parameters 0) (each (spareExists C m a) (C .parameters) 0) (holdAll m a (C .conditions)) (canDoAll m a (C .operations))
+          (all (actualFits nameable (C .parameters) a) parameters 0) (all (spareExists C m a) (C .parameters) 0) (holdAll m a (C .conditions)) (canDoAll m a (C .operations))
           (done (effectAll m a (C .operations)) (entersAnyNew m a (C .operations)))
           (λ n d. absurd (not-both m' new n (sym d)))
           (λ fit spare hold can d.
@@ -378,7 +378,7 @@ module _ (nameable : ℕ → Bool) (S : System) (m : State) (x : Call) where
         effectAll m a (C .operations),
         entersAnyNew m a (C .operations),
         execution C (A .found)
-            ∙ gates-open (each (actualFits nameable (C .parameters) a) parameters 0) (each (spareExists C m a) (C .parameters) 0) (holdAll m a (C .conditions)) (canDoAll m a (C .operations))
+            ∙ gates-open (all (actualFits nameable (C .parameters) a) parameters 0) (all (spareExists C m a) (C .parameters) 0) (holdAll m a (C .conditions)) (canDoAll m a (C .operations))
             (done (effectAll m a (C .operations)) (entersAnyNew m a (C .operations))) (A .fit) (A .spare) (satisfied-hold m a (C .conditions) (y .conditions)) (d .0),
         d .1,
       )

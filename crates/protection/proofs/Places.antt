@@ -9,10 +9,10 @@ use native.Mathlib.Omega.{arith}
 use native.Mathlib.Nat.{zero-add, mul-le-mul-right, mul-add-div-right, mul-add-mod-self-right, div-eq-of-lt, mod-eq-of-lt}
 use borrow.Author.Tests.{lt-ltb}
 use lib.Dec.{T, eqb, ltb, eqb→eq, ltb→lt}
-use Rattle.cases.specs.Cases.{pick, each, listed}
+use Rattle.cases.specs.Cases.{pick, all, tabulate}
 use Rattle.cases.proofs.Bools.{and-right, both, or-cases, holds as test-holds}
-use Rattle.cases.proofs.Lists.{getD-listed}
-use Rattle.cases.proofs.Loops.{each-all, each-one}
+use Rattle.cases.proofs.Lists.{getD-tabulate}
+use Rattle.cases.proofs.Loops.{all-of, all-one}
 use Rattle.protection.specs.Limits.{names, parameters, unused}
 use Rattle.protection.specs.State.{State, objectIn, subjectIn}
 use Rattle.protection.specs.Command.{Condition, Operation, enter, delete, Command, System, Actuals, actuals, inConditions, inOperation, inOperations, named}
@@ -46,9 +46,9 @@ reach (c ∷ cs) (x ∷ l) h = go (reach cs l (h .2))
         let back : c .low + d ≡ x = omega (arith, h .0) in
         (d * w + q, omega arith, ap₂ _∷_ (ap (λ (z : ℕ). c .low + z) quotient ∙ back) (ap (namesAt cs) remainder ∙ e))
 
-within-listed : (f : ℕ → Choice) (v : ℕ → ℕ) → ((b : ℕ) → (f b .low ≤ v b) × (v b < f b .low + f b .radix)) → (n j : ℕ) → Within (listed f n j) (listed v n j)
-within-listed f v h zero j = tt
-within-listed f v h (suc n) j = (h j .0, h j .1, within-listed f v h n (suc j))
+within-tabulate : (f : ℕ → Choice) (v : ℕ → ℕ) → ((b : ℕ) → (f b .low ≤ v b) × (v b < f b .low + f b .radix)) → (n j : ℕ) → Within (tabulate f n j) (tabulate v n j)
+within-tabulate f v h zero j = tt
+within-tabulate f v h (suc n) j = (h j .0, h j .1, within-tabulate f v h n (suc j))
 
 -- ---- the places of a command
 -- the actuals as a call has them: 255 in the positions that the command does not use
@@ -60,7 +60,7 @@ pub record Placed (i : ℕ) (C : Command) (n : ℕ) (a : Actuals) : Type 0 where
   pub place : ℕ
   pub inside : place < placesOf C n
   pub agrees : (b : ℕ) → b < C .parameters → actuals (callAt i C n place) b ≡ a b
-  pub fits : T (each (actualFits bounded (C .parameters) (actuals (callAt i C n place))) parameters 0)
+  pub fits : T (all (actualFits bounded (C .parameters) (actuals (callAt i C n place))) parameters 0)
 
 module _ (g : ℕ) (C : Command) (F : Single g C) (n : ℕ) (a : Actuals) (small : (b : ℕ) → b < C .parameters → a b < names)
     (new : (b : ℕ) → T (creates b (operationIn C)) → a b ≡ n) (room : T (isCreate (operationIn C)) → n < names) where
@@ -78,7 +78,7 @@ module _ (g : ℕ) (C : Command) (F : Single g C) (n : ℕ) (a : Actuals) (small
 
   pub placed : (i : ℕ) → Placed i C n a
   unfolding padded
-  placed i = go (reach (choices C n) (listed (padded C a) parameters 0) (within-listed (choice C n) (padded C a) choice-within parameters 0))
+  placed i = go (reach (choices C n) (tabulate (padded C a) parameters 0) (within-tabulate (choice C n) (padded C a) choice-within parameters 0))
     where
       in-places : (p : ℕ) (b : Bool) → (T b → ⊥) → p < weight (choices C n) → p < elim b [ true ↦ 0 | false ↦ weight (choices C n) ]
       in-places p true f l = absurd (f tt)
@@ -94,16 +94,16 @@ module _ (g : ℕ) (C : Command) (F : Single g C) (n : ℕ) (a : Actuals) (small
       fit true b v s e = rw e (lt-ltb (a b) names (s tt))
       fit false b v s e = rw e
 
-      go : (p : ℕ) × (p < weight (choices C n)) × (namesAt (choices C n) p ≡ listed (padded C a) parameters 0) → Placed i C n a
+      go : (p : ℕ) × (p < weight (choices C n)) × (namesAt (choices C n) p ≡ tabulate (padded C a) parameters 0) → Placed i C n a
       go (p, l, e) =
           let at : (b : ℕ) → b < parameters → actuals (callAt i C n p) b ≡ padded C a b =
-          λ b h. ap (λ (z : List ℕ). actuals (fourOf i z) b) e ∙ getD-listed (padded C a) 0 parameters 0 b h ∙ ap (padded C a) (zero-add b) in
+          λ b h. ap (λ (z : List ℕ). actuals (fourOf i z) b) e ∙ getD-tabulate (padded C a) 0 parameters 0 b h ∙ ap (padded C a) (zero-add b) in
           record {
             place = p;
             inside = in-places p (isCreate (operationIn C) && eqb n names) full l;
             agrees = λ b h. at b (omega (arith, F .few)) ∙ rw (lt-ltb b (C .parameters) h);
-            fits = test-holds (each (actualFits bounded (C .parameters) (actuals (callAt i C n p))) parameters 0)
-                (each-all (actualFits bounded (C .parameters) (actuals (callAt i C n p))) parameters 0
+            fits = test-holds (all (actualFits bounded (C .parameters) (actuals (callAt i C n p))) parameters 0)
+                (all-of (actualFits bounded (C .parameters) (actuals (callAt i C n p))) parameters 0
                 (λ b _ h. fit (ltb b (C .parameters)) b (actuals (callAt i C n p) b) (λ t. small b (ltb→lt b (C .parameters) t)) (at b (rw zero-add at h))));
           }
 
@@ -123,11 +123,11 @@ pub names-small : (g : ℕ) (C : Command) → Single g C → (m : State) → ((x
     → ((b : ℕ) → T (inOperation b (operationIn C)) → a b < names) → (b : ℕ) → b < C .parameters → a b < names
 names-small g C F m below a t in-op b l =
     let hold : T (holdAll m a (C .conditions)) = search both in
-    let spare : T (each (spareExists C m a) (C .parameters) 0) = search both in
+    let spare : T (all (spareExists C m a) (C .parameters) 0) = search both in
     ⊎-elim
     (λ u. ⊎-elim (λ c. below (a b) (conditions-exist m a b (C .conditions) c hold))
     (λ s. in-op b (rw (or-false (inOperation b (operationIn C))) at (rw (F .one-operation) at s))) (or-cases (inConditions b (C .conditions)) (inOperations b (C .operations)) u))
-    (below (a b)) (or-cases (named C b) (objectIn m (a b)) (each-one (spareExists C m a) (C .parameters) 0 spare b (omega arith) (omega arith)))
+    (below (a b)) (or-cases (named C b) (objectIn m (a b)) (all-one (spareExists C m a) (C .parameters) 0 spare b (omega arith) (omega arith)))
 
 -- ---- a call at any actuals is at a place that the judge visits
 -- the place where command C of S is tried with what a gives its parameters

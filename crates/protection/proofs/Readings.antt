@@ -5,7 +5,7 @@ use mathlib.Core.Bool.{Bool, true, false, _&&_, _||_}
 use mathlib.Core.List.{List, [], _∷_}
 use lib.Dec.{T, eqb}
 use lib.ListN.{getD}
-use Rattle.cases.specs.Cases.{turns, each}
+use Rattle.cases.specs.Cases.{iterate, all}
 use Rattle.protection.specs.Limits.{unused}
 use Rattle.protection.specs.State.{Kind, absent, object, subject, State}
 use Rattle.protection.specs.Command.{Condition, Operation, enter, delete, createSubject, createObject, destroySubject, destroyObject, Command, System, Call}
@@ -67,25 +67,25 @@ leaksFrom m xs = leaks unbounded S 0 m xs
 
 -- "It leaks r if .. some step enters r into a cell that lacks r at that step, even if a later step removes it."
 leak-after-delete : leaksFrom with (call 1 (0 ∷ []) ∷ []) ≡ true
-unfolding leaks each
+unfolding leaks all
 leak-after-delete = refl
 
 leak-before-delete : leaksFrom without (call 2 (0 ∷ []) ∷ []) ≡ true
-unfolding leaks each
+unfolding leaks all
 leak-before-delete = refl
 
 right-there : leaksFrom with (call 0 (0 ∷ []) ∷ []) ≡ false
-unfolding leaks each
+unfolding leaks all
 right-there = refl
 
 -- "in a rule carried out whole"
 refused-later : leaksFrom without (call 3 (0 ∷ []) ∷ []) ≡ false
-unfolding leaks each
+unfolding leaks all
 refused-later = refl
 
 -- "a finite list of rule runs, refused ones included; it may be empty"
 refused-first : leaksFrom without (call 3 (0 ∷ []) ∷ call 0 (0 ∷ []) ∷ []) ≡ true
-unfolding leaks each
+unfolding leaks all
 refused-first = refl
 
 no-call : leaksFrom without [] ≡ false
@@ -94,38 +94,38 @@ no-call = refl
 
 -- "Each rule run meets the state that the one before left"
 state-before : leaksFrom with (call 4 (1 ∷ []) ∷ call 0 (1 ∷ []) ∷ []) ≡ true
-unfolding leaks each
+unfolding leaks all
 state-before = refl
 
 -- "names are whole numbers from 0 up, without a bound"; on the file's matrix they are below 32
 large-name : leaksFrom with (call 4 (100000 ∷ []) ∷ call 0 (100000 ∷ []) ∷ []) ≡ true
-unfolding leaks each
+unfolding leaks all
 large-name = refl
 
 bounded-names : execute bounded S with (call 4 (32 ∷ [])) ≡ refused 12
-unfolding each
+unfolding all
 bounded-names = refl
 
 -- "save that 31 is no bound for a name": positions from k on hold 255
 unused-position : execute unbounded S with (call 4 (1 ∷ 0 ∷ [])) ≡ refused 12
-unfolding each
+unfolding all
 unused-position = refl
 
 -- "It leaks at its last step and nowhere sooner if none of its rule runs is refused, it leaks, and without its last rule run it does not."
 last-leaks : LeaksLast unbounded S 0 with (call 4 (1 ∷ []) ∷ call 0 (1 ∷ []) ∷ [])
-unfolding leaks anyRefused each
+unfolding leaks anyRefused all
 last-leaks = record { carried = λ t. t; leak = tt; sooner = λ t. t }
 
 none-refused : LeaksLast unbounded S 0 without (call 3 (0 ∷ []) ∷ call 0 (0 ∷ []) ∷ []) → ⊥
-unfolding anyRefused each
+unfolding anyRefused all
 none-refused h = h .carried tt
 
 it-leaks : LeaksLast unbounded S 0 with (call 0 (0 ∷ []) ∷ []) → ⊥
-unfolding leaks each
+unfolding leaks all
 it-leaks h = h .leak
 
 not-sooner : LeaksLast unbounded S 0 without (call 0 (0 ∷ []) ∷ call 0 (0 ∷ []) ∷ []) → ⊥
-unfolding leaks each
+unfolding leaks all
 not-sooner h = h .sooner tt
 
 -- ---- the judge
@@ -137,18 +137,18 @@ unsafe xs = record { unsafe = true; steps = xs }
 
 -- "for each rule through all actuals, the first blank slowest"
 blanks-in-order : judge (system 1 (command 2 [] (enter 0 0 1 ∷ []) ∷ [])) 0 (state (subject ∷ subject ∷ []) (mark 0 0 0 ∷ [])) ≡ unsafe (call 0 (0 ∷ 1 ∷ []) ∷ [])
-unfolding judge rounds lowestAbsent turns each count
+unfolding judge rounds lowestAbsent iterate all count
 blanks-in-order = refl
 
 -- "It goes through the rules in order"; "After the last rule it starts again"
 rules-in-order
     : judge (system 2 (command 1 (ifIn 1 0 0 ∷ []) (enter 0 0 0 ∷ []) ∷ command 1 [] (enter 1 0 0 ∷ []) ∷ command 1 [] (enter 0 0 0 ∷ []) ∷ [])) 0 without
     ≡ unsafe (call 1 (0 ∷ []) ∷ call 2 (0 ∷ []) ∷ [])
-unfolding judge rounds lowestAbsent turns each count
+unfolding judge rounds lowestAbsent iterate all count
 rules-in-order = refl
 
 again-from-the-first : judge (system 2 (command 1 (ifIn 1 0 0 ∷ []) (enter 0 0 0 ∷ []) ∷ command 1 [] (enter 1 0 0 ∷ []) ∷ [])) 0 without ≡ unsafe (call 1 (0 ∷ []) ∷ call 0 (0 ∷ []) ∷ [])
-unfolding judge rounds lowestAbsent turns each count
+unfolding judge rounds lowestAbsent iterate all count
 again-from-the-first = refl
 
 -- "A created blank gets only the name that is lowest absent when the judge reaches the rule in that round"; "a create object if the judge has done no create
@@ -167,7 +167,7 @@ creates
     0
     (state (absent ∷ subject ∷ object ∷ []) [])
     ≡ safe (call 0 (0 ∷ []) ∷ call 2 (3 ∷ []) ∷ call 4 (0 ∷ []) ∷ call 4 (1 ∷ []) ∷ [])
-unfolding judge rounds lowestAbsent turns each count
+unfolding judge rounds lowestAbsent iterate all count
 creates = refl
 
 -- "for each start cell (s, o) holding r, row by row: the first allowed delete of r from it, and the first enter of r into it allowed once r is gone; the first
@@ -178,12 +178,12 @@ cells-in-order
     0
     (state (subject ∷ subject ∷ []) (mark 0 0 0 ∷ mark 0 0 1 ∷ mark 1 0 1 ∷ mark 0 1 0 ∷ mark 1 1 0 ∷ []))
     ≡ unsafe (call 0 (0 ∷ 1 ∷ []) ∷ call 1 (0 ∷ 1 ∷ []) ∷ [])
-unfolding judge rounds lowestAbsent turns each count
+unfolding judge rounds lowestAbsent iterate all count
 cells-in-order = refl
 
 -- "once r is gone": from that cell, and from no other
 gone-there : judge (system 1 (command 1 [] (delete 0 0 0 ∷ []) ∷ command 1 (ifIn 0 0 0 ∷ []) (enter 0 0 0 ∷ []) ∷ [])) 0 with ≡ safe []
-unfolding judge rounds lowestAbsent turns each count
+unfolding judge rounds lowestAbsent iterate all count
 gone-there = refl
 
 there-elsewhere
@@ -192,5 +192,5 @@ there-elsewhere
     0
     (state (subject ∷ object ∷ []) (mark 0 0 0 ∷ mark 0 0 1 ∷ []))
     ≡ unsafe (call 1 (0 ∷ 1 ∷ []) ∷ call 0 (0 ∷ 1 ∷ []) ∷ [])
-unfolding judge rounds lowestAbsent turns each count
+unfolding judge rounds lowestAbsent iterate all count
 there-elsewhere = refl

@@ -24,7 +24,7 @@ use Rattle.protection.proofs.Closed.{Closed, closed-safe}
 use Rattle.protection.proofs.Rounds.{visit-cases, round-quiet, keep-rounds, rounds-end, rounds-more}
 use Rattle.protection.proofs.Widening.{last-unbounded}
 use Rattle.protection.proofs.Consequences.{settled-still}
-use Rattle.protection.proofs.Invariant.{Goes, goes-last, Course, course-opened, course-step}
+use Rattle.protection.proofs.Invariant.{Goes, goes-last, Invariant, invariant-opened, invariant-step}
 use Rattle.protection.proofs.Fixpoint.{closed-enters, closed-creates-subject, closed-creates-object}
 use Rattle.protection.proofs.ClosingSearch.{closing-none, closing-few, closing-sound}
 use Rattle.protection.proofs.Bound.{Tally, tally-opened, tally-step, tally-bound, tally-room}
@@ -37,7 +37,7 @@ pub record Taken (S : System) (m : State) : Type 0 where
 
 -- ---- the invariant of the rounds from m
 pub record Kept (S : System) (r : ℕ) (m : State) (j : Progress) : Type 0 where
-  pub course : Course S r m j
+  pub course : Invariant S r m j
   pub proper : Proper (S .rights) (j .state)
   pub tally : Tally (S .rights) (subjectsOf m) (namesOf m) j
 
@@ -46,7 +46,7 @@ kept-bound S r m j h = tally-bound (S .rights) m j (h .proper) (h .tally)
 
 module _ (S : System) (r : ℕ) (m : State) (K : Taken S m) where
   pub kept-opened : Kept S r m (opened m)
-  kept-opened = record { course = course-opened S r m; proper = K .proper; tally = tally-opened (S .rights) m }
+  kept-opened = record { course = invariant-opened S r m; proper = K .proper; tally = tally-opened (S .rights) m }
 
   -- at any place of a command of S, whatever the name n that its create is tried with
   pub kept-visit : (i : ℕ) (C : Command) → getElem? (S .commands) i ≡ some C → (n p : ℕ) (j : Progress) → Kept S r m j → Kept S r m (visit S r i C n p j)
@@ -55,7 +55,7 @@ module _ (S : System) (r : ℕ) (m : State) (K : Taken S m) where
       let x = callAt i C n p in
       let e = call-done S (K .singles) bounded (j .state) x C found G in
       let t = tally-step (S .rights) (subjectsOf m) (namesOf m) r j (h .proper) (h .tally) x (C .parameters) (carried-small (S .rights) C F (j .state) (actuals x) G) (operationIn C) (F .operation-fits) (G .can) want in
-      record { course = course-step S r m j (h .course) x going (operationIn C) (G .can) want e; proper = t .0; tally = t .1 }) h
+      record { course = invariant-step S r m j (h .course) x going (operationIn C) (G .can) want e; proper = t .0; tally = t .1 }) h
 
   pub kept-rounds : (fuel : ℕ) → Kept S r m (rounds S r fuel (opened m))
   kept-rounds fuel = keep-rounds S r (Kept S r m) kept-visit fuel (opened m) kept-opened

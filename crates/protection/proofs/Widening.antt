@@ -10,9 +10,9 @@ use native.Mathlib.Omega.{arith}
 use borrow.Author.Tests.{ltb-true}
 use lib.Dec.{T, eqb, ltb}
 use lib.ListN.{getElem?}
-use Rattle.cases.specs.Cases.{pick, each}
+use Rattle.cases.specs.Cases.{pick, all}
 use Rattle.cases.proofs.Bools.{is-true, fails, holds as test-holds, or-cases, or-left, or-right}
-use Rattle.cases.proofs.Loops.{each-at, each-all}
+use Rattle.cases.proofs.Loops.{all-at, all-of}
 use Rattle.protection.specs.Limits.{parameters, unused}
 use Rattle.protection.specs.State.{State}
 use Rattle.protection.specs.Command.{Command, System, Call, actuals}
@@ -35,7 +35,7 @@ carries P Q S x h m m' new e = go (getElem? (S .commands) (x .command)) refl e
   where
     go : (w : Option Command) → getElem? (S .commands) (x .command) ≡ w → executeCommand P m w (actuals x) ≡ done m' new → executeCommand Q m w (actuals x) ≡ done m' new
     go none d e = e
-    go (some C) d e = gates (each (actualFits P (C .parameters) (actuals x)) parameters 0) refl e
+    go (some C) d e = gates (all (actualFits P (C .parameters) (actuals x)) parameters 0) refl e
       where
         fits : (b : ℕ) → actualFits P (C .parameters) (actuals x) b ≡ true → actualFits Q (C .parameters) (actuals x) b ≡ true
         fits b = by (ltb b (C .parameters)) refl
@@ -44,13 +44,13 @@ carries P Q S x h m m' new e = go (getElem? (S .commands) (x .command)) refl e
             by true l e = is-true (Q (actuals x b)) (h C d b (ltb-true b (C .parameters) l) (test-holds (P (actuals x b)) e))
             by false l e = e
 
-        gates : (c : Bool) → each (actualFits P (C .parameters) (actuals x)) parameters 0 ≡ c
-            → gate c 12 (gate (each (spareExists C m (actuals x)) (C .parameters) 0) 13 (gate (holdAll m (actuals x) (C .conditions)) 14 (gate (canDoAll m (actuals x) (C .operations)) 15
+        gates : (c : Bool) → all (actualFits P (C .parameters) (actuals x)) parameters 0 ≡ c
+            → gate c 12 (gate (all (spareExists C m (actuals x)) (C .parameters) 0) 13 (gate (holdAll m (actuals x) (C .conditions)) 14 (gate (canDoAll m (actuals x) (C .operations)) 15
             (done (effectAll m (actuals x) (C .operations)) (entersAnyNew m (actuals x) (C .operations)))))) ≡ done m' new
             → executeCommand Q m (some C) (actuals x) ≡ done m' new
         gates true d e =
-            let z : each (actualFits Q (C .parameters) (actuals x)) parameters 0 ≡ true =
-            each-all (actualFits Q (C .parameters) (actuals x)) parameters 0 (λ b l k. fits b (each-at (actualFits P (C .parameters) (actuals x)) parameters 0 d b l k)) in
+            let z : all (actualFits Q (C .parameters) (actuals x)) parameters 0 ≡ true =
+            all-of (actualFits Q (C .parameters) (actuals x)) parameters 0 (λ b l k. fits b (all-at (actualFits P (C .parameters) (actuals x)) parameters 0 d b l k)) in
             rw z e
         gates false d e = absurd (let z : _≡_ {A = ℕ} 0 1 = cc in omega arith)
 
@@ -86,9 +86,9 @@ module _ (P Q : ℕ → Bool) (S : System) (r : ℕ) where
 
   last-carries : (xs : List Call) (m : State) → CarriesAll P Q S xs → LeaksLast P S r m xs → LeaksLast Q S r m xs
   last-carries xs m h L =
-      let all = carried-same xs m h (L .carried) in
+      let whole = carried-same xs m h (L .carried) in
       let most = carried-same (init xs) m (init-all xs h) (λ t. L .carried (init-carried xs m t)) in
-      record { carried = fails (anyRefused Q S m xs) (all .0); leak = subst T (sym (all .1)) (L .leak); sooner = λ t. L .sooner (subst T (most .1) t) }
+      record { carried = fails (anyRefused Q S m xs) (whole .0); leak = subst T (sym (whole .1)) (L .leak); sooner = λ t. L .sooner (subst T (most .1) t) }
 
 -- the calls give names of a file, 0 to 31, to the parameters of their commands
 abbrev pub NamesOfFile : System → List Call → Type 0

@@ -6,7 +6,7 @@ use mathlib.Core.Option.{some}
 use Prim.Native.Nat.{ℕ}
 use lib.Dec.{T}
 use lib.ListN.{getElem?}
-use Rattle.cases.specs.Cases.{each}
+use Rattle.cases.specs.Cases.{all}
 use Rattle.protection.specs.Limits.{parameters}
 use Rattle.protection.specs.State.{State}
 use Rattle.protection.specs.Command.{Command, System, Call, actuals}
@@ -16,8 +16,8 @@ use Rattle.protection.specs.Paper.{Configuration, configuration, Same, E
 -- not 11, "no such rule"; not 12, "an actual above 31 in a used position or not 255 in an unused one"; not 13, "an unnamed blank with an absent name"
 pub record Admitted (nameable : ℕ → Bool) (S : System) (m : State) (x : Call) (C : Command) : Type 0 where
   pub found : getElem? (S .commands) (x .command) ≡ some C
-  pub fit : T (each (actualFits nameable (C .parameters) (actuals x)) parameters 0)
-  pub spare : T (each (spareExists C m (actuals x)) (C .parameters) 0)
+  pub fit : T (all (actualFits nameable (C .parameters) (actuals x)) parameters 0)
+  pub spare : T (all (spareExists C m (actuals x)) (C .parameters) 0)
 
 pub record Agrees (nameable : ℕ → Bool) (S : System) (m : State) (x : Call) : Type 0 where
   -- a rule run that is done is one that the paper's relation executes, and it ends in the same configuration

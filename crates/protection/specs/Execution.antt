@@ -5,7 +5,7 @@ use mathlib.Core.Option.{Option, none, some}
 use Prim.Native.Nat.{ℕ}
 use lib.Dec.{eqb, ltb}
 use lib.ListN.{getElem?}
-use Rattle.cases.specs.Cases.{pick, each}
+use Rattle.cases.specs.Cases.{pick, all}
 use Rattle.protection.specs.Limits.{names, parameters, unused}
 use Rattle.protection.specs.State.{Kind, absent, object, subject, State, objectIn, subjectIn}
 use Rattle.protection.specs.Command.{Condition, Operation, enter, delete, createSubject, createObject, destroySubject, destroyObject, Command, System, Call, Actuals, actuals, named}
@@ -107,8 +107,8 @@ gate false n o = refused n
 abbrev pub executeCommand : (ℕ → Bool) → State → Option Command → Actuals → Outcome
 executeCommand nameable m none a = refused 11
 executeCommand nameable m (some C) a =
-    gate (each (actualFits nameable (C .parameters) a) parameters 0) 12
-    (gate (each (spareExists C m a) (C .parameters) 0) 13
+    gate (all (actualFits nameable (C .parameters) a) parameters 0) 12
+    (gate (all (spareExists C m a) (C .parameters) 0) 13
     (gate (holdAll m a (C .conditions)) 14
     (gate (canDoAll m a (C .operations)) 15
     (done (effectAll m a (C .operations)) (entersAnyNew m a (C .operations))))))

@@ -5,21 +5,21 @@ use mathlib.Core.List.{List, [], _∷_, _++_}
 use native.Mathlib.Omega.{arith}
 use lib.ListN.{length, getD, take, drop}
 use lib.Seq.{take-at}
-use Rattle.cases.specs.Cases.{listed}
-use Rattle.cases.proofs.Lists.{length-listed}
+use Rattle.cases.specs.Cases.{tabulate}
+use Rattle.cases.proofs.Lists.{length-tabulate}
 use Rattle.protection.specs.Command.{Call}
-use Rattle.trace.specs.Traces.{callAt, calls}
+use Rattle.trace.specs.Traces.{stepCall, calls}
 use Rattle.safety.specs.Judgement.{bytesOf, filled}
 
-listed-later : {A : Type 0} (f g : ℕ → A) → ((i : ℕ) → f (suc i) ≡ g i) → (n j : ℕ) → listed f n (suc j) ≡ listed g n j
-listed-later f g h zero j = refl
-listed-later f g h (suc n) j = ap₂ _∷_ (h j) (listed-later f g h n (suc j))
+tabulate-later : {A : Type 0} (f g : ℕ → A) → ((i : ℕ) → f (suc i) ≡ g i) → (n j : ℕ) → tabulate f n (suc j) ≡ tabulate g n j
+tabulate-later f g h zero j = refl
+tabulate-later f g h (suc n) j = ap₂ _∷_ (h j) (tabulate-later f g h n (suc j))
 
 five : (k : ℕ) → 5 * suc k ≡ suc (suc (suc (suc (suc (5 * k)))))
 five k = omega arith
 
 -- a step further on is a step of the rest
-call-later : (x y z u v : ℕ) (b : List ℕ) (i : ℕ) → callAt (x ∷ y ∷ z ∷ u ∷ v ∷ b) (suc i) ≡ callAt b i
+call-later : (x y z u v : ℕ) (b : List ℕ) (i : ℕ) → stepCall (x ∷ y ∷ z ∷ u ∷ v ∷ b) (suc i) ≡ stepCall b i
 call-later x y z u v b i =
     let e₁ : 5 * suc i + 1 ≡ suc (suc (suc (suc (suc (5 * i + 1))))) = omega arith in
     let e₂ : 5 * suc i + 2 ≡ suc (suc (suc (suc (suc (5 * i + 2))))) = omega arith in
@@ -27,8 +27,8 @@ call-later x y z u v b i =
     let e₄ : 5 * suc i + 4 ≡ suc (suc (suc (suc (suc (5 * i + 4))))) = omega arith in
     rw (e₁, e₂, e₃, e₄, five i)
 
-calls-later : (x y z u v : ℕ) (b : List ℕ) (n : ℕ) → listed (callAt (x ∷ y ∷ z ∷ u ∷ v ∷ b)) n 1 ≡ calls b n
-calls-later x y z u v b n = listed-later (callAt (x ∷ y ∷ z ∷ u ∷ v ∷ b)) (callAt b) (call-later x y z u v b) n 0
+calls-later : (x y z u v : ℕ) (b : List ℕ) (n : ℕ) → tabulate (stepCall (x ∷ y ∷ z ∷ u ∷ v ∷ b)) n 1 ≡ calls b n
+calls-later x y z u v b n = tabulate-later (stepCall (x ∷ y ∷ z ∷ u ∷ v ∷ b)) (stepCall b) (call-later x y z u v b) n 0
 
 -- the first n steps of a buffer, as bytes, and the rest of it
 bytes-back : (n : ℕ) (b : List ℕ) → 5 * n ≤ length b → bytesOf (calls b n) ++ drop (5 * n) b ≡ b
@@ -72,4 +72,4 @@ drop-same (suc n) (x ∷ b) (y ∷ b') e h = drop-same n b b' (omega arith) (λ 
 pub buffer-filled : (n : ℕ) (b b' : List ℕ) → length b' ≡ length b → 5 * n ≤ length b' → ((k : ℕ) → 5 * n ≤ k → getD b' k 0 ≡ getD b k 0) → b' ≡ filled (calls b' n) b
 buffer-filled n b b' e l h =
     sym (bytes-back n b' l) ∙ ap (λ (d : List ℕ). bytesOf (calls b' n) ++ d)
-    (drop-same (5 * n) b b' e h ∙ ap (λ (k : ℕ). drop (5 * k) b) (sym (length-listed (callAt b') n 0)))
+    (drop-same (5 * n) b b' e h ∙ ap (λ (k : ℕ). drop (5 * k) b) (sym (length-tabulate (stepCall b') n 0)))

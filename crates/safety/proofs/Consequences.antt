@@ -10,8 +10,8 @@ use borrow.Author.Tests.{lt-ltb}
 use lib.Dec.{T}
 use lib.ListN.{length, take, drop, take-append-drop}
 use lib.Seq.{length-take-le}
-use Rattle.cases.specs.Cases.{pick, listed}
-use Rattle.cases.proofs.Lists.{length-listed}
+use Rattle.cases.specs.Cases.{pick, tabulate}
+use Rattle.cases.proofs.Lists.{length-tabulate}
 use Rattle.protection.specs.Limits.{rights, startNames}
 use Rattle.protection.specs.State.{State}
 use Rattle.protection.specs.Size.{namesOf}
@@ -21,7 +21,7 @@ use Rattle.protection.specs.Leak.{leaks, anyRefused, init, LeaksLast}
 use Rattle.protection.specs.Judge.{round, conclude, allRounds, judge}
 use Rattle.protection.proofs.Consequences.{settled-still}
 use Rattle.policy.specs.Contents.{fileState, fileSystem}
-use Rattle.trace.specs.Traces.{callAt, calls}
+use Rattle.trace.specs.Traces.{stepCall, calls}
 use Rattle.trace.specs.Replays.{fileReplay, replayCode, replayStep}
 use Rattle.safety.specs.Demand3.{stepsWritten, isSafe, isUnsafe, Demand3}
 use Rattle.safety.specs.Judgement.{judgeRefusal, fileVerdict, judgementOf, Judged}
@@ -37,9 +37,9 @@ some-step nameable S r m [] L = absurd (L .leak)
 some-step nameable S r m (x ∷ xs) L = omega arith
 
 -- the steps without the last one
-init-listed : (f : ℕ → Call) (n j : ℕ) → init (listed f (suc n) j) ≡ listed f n j
-init-listed f zero j = refl
-init-listed f (suc n) j = ap (λ (l : List Call). f j ∷ l) (init-listed f n (suc j))
+init-tabulate : (f : ℕ → Call) (n j : ℕ) → init (tabulate f (suc n) j) ≡ tabulate f n j
+init-tabulate f zero j = refl
+init-tabulate f (suc n) j = ap (λ (l : List Call). f j ∷ l) (init-tabulate f n (suc j))
 
 -- ---- demand 3
 module _ (S : System) (r : ℕ) (m : State) (b : List ℕ) (answer : Judgement) (b' : List ℕ) (D : Demand3 S r m b answer b') where
@@ -67,7 +67,7 @@ module _ (S : System) (r : ℕ) (m : State) (b : List ℕ) (answer : Judgement) 
 
   -- under unsafe there is a step, none is refused, and none can be left off at the end
   pub unsafe-some : T (isUnsafe answer) → 1 ≤ n
-  unsafe-some t = let k = some-step unbounded S r m (calls b' n) (D .steps-leak t) in let e = length-listed (callAt b') n 0 in omega arith
+  unsafe-some t = let k = some-step unbounded S r m (calls b' n) (D .steps-leak t) in let e = length-tabulate (stepCall b') n 0 in omega arith
 
   pub unsafe-carried : T (isUnsafe answer) → T (anyRefused unbounded S m (calls b' n)) → ⊥
   unsafe-carried t = D .steps-leak t .carried
@@ -76,7 +76,7 @@ module _ (S : System) (r : ℕ) (m : State) (b : List ℕ) (answer : Judgement) 
   unsafe-last t w =
       let l = unsafe-some t in
       let e : n ≡ suc (n - 1) = omega arith in
-      let shorter : init (calls b' n) ≡ calls b' (n - 1) = ap (λ (k : ℕ). init (calls b' k)) e ∙ init-listed (callAt b') (n - 1) 0 in
+      let shorter : init (calls b' n) ≡ calls b' (n - 1) = ap (λ (k : ℕ). init (calls b' k)) e ∙ init-tabulate (stepCall b') (n - 1) 0 in
       D .steps-leak t .sooner (subst (λ (l : List Call). T (leaks unbounded S r m l)) (sym shorter) w)
 
   -- no verdict has more than 7,940 steps

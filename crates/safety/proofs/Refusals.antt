@@ -9,10 +9,10 @@ use native.Mathlib.Decide.{ℕ-discrete, decLt}
 use borrow.Author.Tests.{lt-ltb, le-ltb, le-leb, lt-leb, eq-eqb, ne-eqb}
 use lib.Dec.{leb, ltb, ltb→lt}
 use lib.ListN.{length, getD}
-use Rattle.cases.specs.Cases.{pick, each, listed}
+use Rattle.cases.specs.Cases.{pick, all, tabulate}
 use Rattle.cases.proofs.Bools.{holds as test-holds}
-use Rattle.cases.proofs.Lists.{length-listed}
-use Rattle.cases.proofs.Loops.{each-at, each-false, each-true}
+use Rattle.cases.proofs.Lists.{length-tabulate}
+use Rattle.cases.proofs.Loops.{all-at, all-false, all-true}
 use Rattle.protection.specs.Limits.{startNames}
 use Rattle.protection.specs.State.{State}
 use Rattle.protection.specs.Size.{namesOf, stepBound}
@@ -33,26 +33,26 @@ use Rattle.safety.specs.declared.Judgement.the-variants.{Refused}
 abbrev pub oneStep : Policy → ℕ → Bool
 oneStep p i = ltb (getD (p .command) i missing .operations) 2
 
-steps-each : (p : Policy) (n j : ℕ) → singleSteps (listed (commandNumber p) n j) ≡ each (oneStep p) n j
-unfolding each
-steps-each p zero j = refl
-steps-each p (suc n) j =
-    ap₂ _&&_ (ap (λ (k : ℕ). ltb k 2) (length-listed (operationOf (getD (p .command) j missing)) (getD (p .command) j missing .operations) 0)) (steps-each p n (suc j))
-    ∙ both (oneStep p j) (each (oneStep p) n (suc j))
+steps-all : (p : Policy) (n j : ℕ) → singleSteps (tabulate (commandNumber p) n j) ≡ all (oneStep p) n j
+unfolding all
+steps-all p zero j = refl
+steps-all p (suc n) j =
+    ap₂ _&&_ (ap (λ (k : ℕ). ltb k 2) (length-tabulate (operationOf (getD (p .command) j missing)) (getD (p .command) j missing .operations) 0)) (steps-all p n (suc j))
+    ∙ both (oneStep p j) (all (oneStep p) n (suc j))
   where
     both : (b c : Bool) → b && c ≡ pick b c false
     both true c = refl
     both false c = refl
 
-pub steps-start : (p : Policy) (n : ℕ) → n ≡ p .commands → each (oneStep p) (n - 0) 0 ≡ singleSteps (systemOf p .commands)
-steps-start p n e = rw (sub-zero n, e) (sym (steps-each p (p .commands) 0))
+pub steps-start : (p : Policy) (n : ℕ) → n ≡ p .commands → all (oneStep p) (n - 0) 0 ≡ singleSteps (systemOf p .commands)
+steps-start p n e = rw (sub-zero n, e) (sym (steps-all p (p .commands) 0))
 
-pub steps-many : (p : Policy) (n i : ℕ) (all : Bool) (c : Command) → c ≡ getD (p .command) i missing → 2 ≤ c .operations → i < n → each (oneStep p) (n - i) i ≡ all → false ≡ all
-steps-many p n i all c e h l = each-false (oneStep p) n all i (le-ltb (getD (p .command) i missing .operations) 2 (rw e at h)) l
+pub steps-many : (p : Policy) (n i : ℕ) (whole : Bool) (c : Command) → c ≡ getD (p .command) i missing → 2 ≤ c .operations → i < n → all (oneStep p) (n - i) i ≡ whole → false ≡ whole
+steps-many p n i whole c e h l = all-false (oneStep p) n whole i (le-ltb (getD (p .command) i missing .operations) 2 (rw e at h)) l
 
-pub steps-next : (p : Policy) (n i : ℕ) (all : Bool) (c : Command) → c ≡ getD (p .command) i missing → c .operations < 2 → i < n → each (oneStep p) (n - i) i ≡ all
-    → each (oneStep p) (n - (i + 1)) (i + 1) ≡ all
-steps-next p n i all c e h l = each-true (oneStep p) n all i (lt-ltb (getD (p .command) i missing .operations) 2 (rw e at h)) l
+pub steps-next : (p : Policy) (n i : ℕ) (whole : Bool) (c : Command) → c ≡ getD (p .command) i missing → c .operations < 2 → i < n → all (oneStep p) (n - i) i ≡ whole
+    → all (oneStep p) (n - (i + 1)) (i + 1) ≡ whole
+steps-next p n i whole c e h l = all-true (oneStep p) n whole i (lt-ltb (getD (p .command) i missing .operations) 2 (rw e at h)) l
 
 -- ---- what the code tests, one after the other
 module _ (p : Policy) (r n : ℕ) where
@@ -164,8 +164,8 @@ question-asked p r n e F = record {
   below = P .below;
   single = record {
     one-step = λ i l.
-        let all : each (oneStep p) (p .commands) 0 ≡ true = sym (steps-each p (p .commands) 0) ∙ P .single in
-        let few : getD (p .command) i missing .operations < 2 = ltb→lt (getD (p .command) i missing .operations) 2 (test-holds (oneStep p i) (each-at (oneStep p) (p .commands) 0 all i (omega arith) (omega arith))) in
+        let whole : all (oneStep p) (p .commands) 0 ≡ true = sym (steps-all p (p .commands) 0) ∙ P .single in
+        let few : getD (p .command) i missing .operations < 2 = ltb→lt (getD (p .command) i missing .operations) 2 (test-holds (oneStep p i) (all-at (oneStep p) (p .commands) 0 whole i (omega arith) (omega arith))) in
         omega (arith, F .commands-fit i l .some-operation);
   };
   few-names = P .few-names;

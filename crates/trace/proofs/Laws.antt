@@ -10,7 +10,7 @@ use borrow.Author.Tests.{eq-eqb, lt-leb}
 use lib.Dec.{T}
 use lib.ListN.{length, take}
 use Rattle.cases.specs.Cases.{pick}
-use Rattle.cases.proofs.Lists.{length-listed, take-listed}
+use Rattle.cases.proofs.Lists.{length-tabulate, take-tabulate}
 use Rattle.protection.specs.State.{State}
 use Rattle.protection.specs.Command.{System, Call}
 use Rattle.protection.specs.Execution.{bounded, unbounded, Outcome, refused, done, execute}
@@ -19,7 +19,7 @@ use Rattle.protection.proofs.Widening.{NamesOfFile, last-unbounded, last-bounde
 use Rattle.layout.specs.File.{rightsOf}
 use Rattle.policy.specs.Refusals.{refusal}
 use Rattle.policy.specs.Contents.{fileState, fileSystem}
-use Rattle.trace.specs.Traces.{callAt, calls, stepsIn}
+use Rattle.trace.specs.Traces.{stepCall, calls, stepsIn}
 use Rattle.trace.specs.Replays.{reported, replayFrom, fileReplay}
 use Rattle.trace.specs.declared.Replay.the-variants.{NoLeak, Leak, Refused}
 
@@ -173,18 +173,18 @@ module _ (f t : List ℕ) (r : ℕ) (R : Replayed f t r) where
       z = omega arith
 
       first : n < stepsIn t → take (suc n) (calls t (stepsIn t)) ≡ calls t (suc n)
-      first l = take-listed (callAt t) (suc n) (stepsIn t) 0 l
+      first l = take-tabulate (stepCall t) (suc n) (stepsIn t) 0 l
 
       there : fileReplay f t r ≡ Leak n → (n < stepsIn t) × LeaksLast bounded (fileSystem f) r (fileState f) (calls t (suc n))
       there e =
           let h = leak-last (fileSystem f) r (calls t (stepsIn t)) 0 n (fileState f) (sym replayed-is ∙ e ∙ ap Leak (sym z)) in
-          let l : n < stepsIn t = subst (λ (k : ℕ). n < k) (length-listed (callAt t) (stepsIn t) 0) (h .0) in
+          let l : n < stepsIn t = subst (λ (k : ℕ). n < k) (length-tabulate (stepCall t) (stepsIn t) 0) (h .0) in
           (l, subst (LeaksLast bounded (fileSystem f) r (fileState f)) (first l) (h .1))
 
       back : (n < stepsIn t) × LeaksLast bounded (fileSystem f) r (fileState f) (calls t (suc n)) → fileReplay f t r ≡ Leak n
       back h =
           replayed-is
-          ∙ last-leak (fileSystem f) r (calls t (stepsIn t)) 0 n (fileState f) (subst (λ (k : ℕ). n < k) (sym (length-listed (callAt t) (stepsIn t) 0)) (h .0))
+          ∙ last-leak (fileSystem f) r (calls t (stepsIn t)) 0 n (fileState f) (subst (λ (k : ℕ). n < k) (sym (length-tabulate (stepCall t) (stepsIn t) 0)) (h .0))
           (subst (LeaksLast bounded (fileSystem f) r (fileState f)) (sym (first (h .0))) (h .1))
           ∙ ap Leak z
 

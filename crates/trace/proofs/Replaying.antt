@@ -11,7 +11,7 @@ use borrow.Author.Tests.{ne-eqb, eq-eqb, le-leb, lt-leb}
 use denote.Enum.Declared.{tagOf, declared}
 use lib.Dec.{eqb, leb}
 use lib.ListN.{length}
-use Rattle.cases.specs.Cases.{pick, listed}
+use Rattle.cases.specs.Cases.{pick, tabulate}
 use Rattle.protection.specs.Limits.{rights}
 use Rattle.protection.specs.State.{State}
 use Rattle.protection.specs.Command.{Call}
@@ -32,7 +32,7 @@ use Rattle.execution.specs.declared.Answer.{Answer}
 use Rattle.execution.specs.declared.Answer.the-variants.{Refused as Refuses, Done, Leaked}
 use Rattle.execution.specs.declared.Executed.{Executed}
 use Rattle.execution.proofs.Answer.{enum}
-use Rattle.trace.specs.Traces.{stepAt, callAt, calls, stepsIn}
+use Rattle.trace.specs.Traces.{stepAt, stepCall, calls, stepsIn}
 use Rattle.trace.specs.Replays.{reported, replayFrom, fileReplay}
 use Rattle.trace.specs.Ends.{endOf}
 use Rattle.trace.specs.declared.Replay.{Replay}
@@ -57,9 +57,9 @@ goes r i (done m new) later e = go (new r) e
     go false e = refl
 
 module _ (p : Policy) (t : List ℕ) (right n i : ℕ) (m : Matrix) (s : Step) (ds : s ≡ stepAt t i) (e : Executed) (h : ExecutedAs right (outcomeOf p m (s .command) (s .actuals)) m e)
-    (l : i < n) (all : Replay) (inv : replayFrom (systemOf p) right (listed (callAt t) (n - i) i) i (stateOf m) ≡ all) where
+    (l : i < n) (whole : Replay) (inv : replayFrom (systemOf p) right (tabulate (stepCall t) (n - i) i) i (stateOf m) ≡ whole) where
   abbrev o : Outcome
-  o = execute bounded (systemOf p) (stateOf m) (callAt t i)
+  o = execute bounded (systemOf p) (stateOf m) (stepCall t i)
 
   outcome-is : outcomeOf p m (s .command) (s .actuals) ≡ o
   outcome-is = ap (λ (x : Step). outcomeOf p m (x .command) (x .actuals)) ds
@@ -68,27 +68,27 @@ module _ (p : Policy) (t : List ℕ) (right n i : ℕ) (m : Matrix) (s : Step) (
   answered = h .answer ∙ ap (answerOf right) outcome-is
 
   abbrev later : Replay
-  later = replayFrom (systemOf p) right (listed (callAt t) (n - (i + 1)) (i + 1)) (i + 1) (after o (stateOf m))
+  later = replayFrom (systemOf p) right (tabulate (stepCall t) (n - (i + 1)) (i + 1)) (i + 1) (after o (stateOf m))
 
-  unrolled : replayFrom (systemOf p) right (listed (callAt t) (n - i) i) i (stateOf m) ≡ reported right i o later
+  unrolled : replayFrom (systemOf p) right (tabulate (stepCall t) (n - i) i) i (stateOf m) ≡ reported right i o later
   unfolding replayFrom
   unrolled = let z : n - i ≡ suc (n - (i + 1)) = omega arith in rw (z, add-one i)
 
-  pub replay-stop : (x : Replay) → (tagOf (declared enum) (e .answer) ≡ 0) ⊎ (tagOf (declared enum) (e .answer) ≡ 2) → x ≡ endOf (e .answer) i → x ≡ all
+  pub replay-stop : (x : Replay) → (tagOf (declared enum) (e .answer) ≡ 0) ⊎ (tagOf (declared enum) (e .answer) ≡ 2) → x ≡ endOf (e .answer) i → x ≡ whole
   replay-stop x d f =
       f ∙ ap (λ (w : Answer). endOf w i) answered
       ∙ halts right i o later (subst (λ (w : Answer). (tagOf (declared enum) w ≡ 0) ⊎ (tagOf (declared enum) w ≡ 2)) answered d)
       ∙ sym unrolled ∙ inv
 
-  pub replay-more : (j : ℕ) → j ≡ i + 1 → e .answer ≡ Done → replayFrom (systemOf p) right (listed (callAt t) (n - j) j) j (stateOf (e .matrix)) ≡ all
+  pub replay-more : (j : ℕ) → j ≡ i + 1 → e .answer ≡ Done → replayFrom (systemOf p) right (tabulate (stepCall t) (n - j) j) j (stateOf (e .matrix)) ≡ whole
   replay-more j dj d =
-      ap (λ (k : ℕ). replayFrom (systemOf p) right (listed (callAt t) (n - k) k) k (stateOf (e .matrix))) dj
-      ∙ ap (replayFrom (systemOf p) right (listed (callAt t) (n - (i + 1)) (i + 1)) (i + 1)) (h .state ∙ ap (λ (w : Outcome). after w (stateOf m)) outcome-is)
+      ap (λ (k : ℕ). replayFrom (systemOf p) right (tabulate (stepCall t) (n - k) k) k (stateOf (e .matrix))) dj
+      ∙ ap (replayFrom (systemOf p) right (tabulate (stepCall t) (n - (i + 1)) (i + 1)) (i + 1)) (h .state ∙ ap (λ (w : Outcome). after w (stateOf m)) outcome-is)
       ∙ sym (goes right i o later (sym answered ∙ d)) ∙ sym unrolled ∙ inv
 
-pub replay-end : (p : Policy) (t : List ℕ) (right n i : ℕ) (m : Matrix) (all : Replay) → n ≤ i → replayFrom (systemOf p) right (listed (callAt t) (n - i) i) i (stateOf m) ≡ all → NoLeak ≡ all
+pub replay-end : (p : Policy) (t : List ℕ) (right n i : ℕ) (m : Matrix) (whole : Replay) → n ≤ i → replayFrom (systemOf p) right (tabulate (stepCall t) (n - i) i) i (stateOf m) ≡ whole → NoLeak ≡ whole
 unfolding replayFrom
-replay-end p t right n i m all h e = let z : n - i ≡ 0 = omega arith in rw z at e
+replay-end p t right n i m whole h e = let z : n - i ≡ 0 = omega arith in rw z at e
 
 -- ---- the file's replay
 pub replay-bad-file : (f t : List ℕ) (r : ℕ) (x : PolicyRead) → x ≡ policyRead f → (x .refused ≡ 0 → ⊥) → Refused (x .refused) 0 ≡ fileReplay f t r

@@ -10,10 +10,10 @@ use native.Mathlib.Decide.{decLt}
 use borrow.Author.Tests.{ne-eqb, ltb-true, lt-ltb}
 use lib.Dec.{T, eqb, ltb}
 use lib.ListN.{getD, getElem?}
-use Rattle.cases.specs.Cases.{pick, each, listed}
+use Rattle.cases.specs.Cases.{pick, all, tabulate}
 use Rattle.cases.proofs.Bools.{is-true}
-use Rattle.cases.proofs.Lists.{found-listed, none-listed}
-use Rattle.cases.proofs.Loops.{each-at}
+use Rattle.cases.proofs.Lists.{found-tabulate, none-tabulate}
+use Rattle.cases.proofs.Loops.{all-at}
 use Rattle.protection.specs.Limits.{names, parameters}
 use Rattle.protection.specs.State.{State}
 use Rattle.protection.specs.Command.{Command as ModelCommand, Call, Actuals, actuals, valuesOf}
@@ -35,7 +35,7 @@ use Rattle.policy.proofs.FileState.{policy-fits, file-proper}
 use Rattle.policy.proofs.Rewritten.{state-written, system-written, rewritten-accepted}
 use Rattle.update.specs.Demand2.{Demand2}
 use Rattle.update.specs.Files.{fileOutcome, codeOf, rewritten, runCode, runFile, FileRun}
-use Rattle.update.proofs.Preserved.{Sound, SoundAll, sound-listed, proper-all}
+use Rattle.update.proofs.Preserved.{Sound, SoundAll, sound-tabulate, proper-all}
 
 -- ---- a refusal of the machine is one of 11 to 15
 refused-number : (nameable : ℕ → Bool) (m : State) (w : Option ModelCommand) (a : Actuals) (n : ℕ) → executeCommand nameable m w a ≡ refused n → 11 ≤ n
@@ -44,7 +44,7 @@ refused-number nameable m none a n e = let z : 11 ≡ n = number 11 n e in omega
     number : (k n : ℕ) → refused k ≡ refused n → k ≡ n
     number k n e = cc
 refused-number nameable m (some C) a n e =
-    go (each (actualFits nameable (C .parameters) a) parameters 0) (each (spareExists C m a) (C .parameters) 0) (holdAll m a (C .conditions)) (canDoAll m a (C .operations)) e
+    go (all (actualFits nameable (C .parameters) a) parameters 0) (all (spareExists C m a) (C .parameters) 0) (holdAll m a (C .conditions)) (canDoAll m a (C .operations)) e
   where
     number : (k n : ℕ) → refused k ≡ refused n → k ≡ n
     number k n e = cc
@@ -70,8 +70,8 @@ module _ (g : ℕ) (a : List ℕ) (c : Command) (F : Fits g c) (named : (b : ℕ
       go false false false false true = tt
       go false false false false false = tt
 
-  sound-all : SoundAll g (valuesOf a) (listed (operationOf c) (c .operations) 0)
-  sound-all = sound-listed g (valuesOf a) (operationOf c) (c .operations) 0 (λ j _ l.
+  sound-all : SoundAll g (valuesOf a) (tabulate (operationOf c) (c .operations) 0)
+  sound-all = sound-tabulate g (valuesOf a) (operationOf c) (c .operations) 0 (λ j _ l.
       sound-by (getD (c .operation) (4 * j) 0) (getD (c .operation) (4 * j + 1) 0) (getD (c .operation) (4 * j + 2) 0) (getD (c .operation) (4 * j + 3) 0)
       (F .operation-right j (omega arith)) (named (getD (c .operation) (4 * j + 2) 0) (F .operation-first j (omega arith))))
 
@@ -93,7 +93,7 @@ module _ (f : List ℕ) (A : Accepted f) (x : Call) where
       by : (C : Command) → Fits (rightsOf f) C → executeCommand bounded (fileState f) (some (meaning C)) (actuals x) ≡ done m' new → Proper (rightsOf f) m'
       by C G =
           gates-elim (λ o. o ≡ done m' new → Proper (rightsOf f) m')
-          (each (actualFits bounded (C .parameters) (actuals x)) parameters 0) (each (spareExists (meaning C) (fileState f) (actuals x)) (C .parameters) 0)
+          (all (actualFits bounded (C .parameters) (actuals x)) parameters 0) (all (spareExists (meaning C) (fileState f) (actuals x)) (C .parameters) 0)
           (holdAll (fileState f) (actuals x) (meaning C .conditions)) (canDoAll (fileState f) (actuals x) (meaning C .operations))
           (done (effectAll (fileState f) (actuals x) (meaning C .operations)) (entersAnyNew (fileState f) (actuals x) (meaning C .operations)))
           (λ n d. absurd (let z : _≡_ {A = ℕ} 0 1 = cc in omega arith))
@@ -103,11 +103,11 @@ module _ (f : List ℕ) (A : Accepted f) (x : Call) where
           (proper-all (rightsOf f) (meaning C .operations) (fileState f) (actuals x) (file-proper f A)
           (sound-all (rightsOf f) (x .a0 ∷ x .a1 ∷ x .a2 ∷ x .a3 ∷ []) C G (λ b l. named C G fit b l)) can))
         where
-          named : (C : Command) → Fits (rightsOf f) C → T (each (actualFits bounded (C .parameters) (actuals x)) parameters 0) → (b : ℕ) → b < C .parameters → actuals x b < names
+          named : (C : Command) → Fits (rightsOf f) C → T (all (actualFits bounded (C .parameters) (actuals x)) parameters 0) → (b : ℕ) → b < C .parameters → actuals x b < names
           named C G fit b l =
               let few = G .few-parameters in
               let e : actualFits bounded (C .parameters) (actuals x) b ≡ true =
-              each-at (actualFits bounded (C .parameters) (actuals x)) parameters 0 (is-true (each (actualFits bounded (C .parameters) (actuals x)) parameters 0) fit) b (omega arith) (omega arith) in
+              all-at (actualFits bounded (C .parameters) (actuals x)) parameters 0 (is-true (all (actualFits bounded (C .parameters) (actuals x)) parameters 0) fit) b (omega arith) (omega arith) in
               let z : ltb b (C .parameters) ≡ true = lt-ltb b (C .parameters) l in
               ltb-true (actuals x b) names (rw z at e)
 
@@ -115,9 +115,9 @@ module _ (f : List ℕ) (A : Accepted f) (x : Call) where
       go (yes l) e =
           let w : 0 + x .command ≡ x .command = omega arith in
           by (code (x .command)) (F .commands-fit (x .command) l)
-          (sym (call (some (meaning (code (x .command)))) (found-listed (λ j. meaning (code j)) (policyOf f .commands) 0 (x .command) l ∙ ap (λ (j : ℕ). some (meaning (code j))) w)) ∙ e)
+          (sym (call (some (meaning (code (x .command)))) (found-tabulate (λ j. meaning (code j)) (policyOf f .commands) 0 (x .command) l ∙ ap (λ (j : ℕ). some (meaning (code j))) w)) ∙ e)
       go (no l) e =
-          absurd (let d : refused 11 ≡ done m' new = sym (call none (none-listed (λ j. meaning (code j)) (policyOf f .commands) 0 (x .command) (omega arith))) ∙ e in let z : _≡_ {A = ℕ} 0 1 = cc in omega arith)
+          absurd (let d : refused 11 ≡ done m' new = sym (call none (none-tabulate (λ j. meaning (code j)) (policyOf f .commands) 0 (x .command) (omega arith))) ∙ e in let z : _≡_ {A = ℕ} 0 1 = cc in omega arith)
 
 -- ---- the theorem, of the answer and the file that are defined
 module _ (f : List ℕ) (x : Call) where

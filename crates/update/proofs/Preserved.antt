@@ -6,7 +6,7 @@ use mathlib.Core.List.{List, [], _∷_}
 use mathlib.Core.Logic.{_⊎_, inl, inr, ⊎-elim}
 use native.Mathlib.Omega.{arith}
 use lib.Dec.{T, eqb, eqb→eq, T-not}
-use Rattle.cases.specs.Cases.{pick, listed}
+use Rattle.cases.specs.Cases.{pick, tabulate}
 use Rattle.cases.proofs.Bools.{and-left, and-right, and-intro, both, or-cases, or-left, or-right}
 use Rattle.protection.specs.Limits.{names}
 use Rattle.protection.specs.State.{Kind, absent, object, subject, isObject, isSubject, State, objectIn, subjectIn}
@@ -27,9 +27,9 @@ abbrev pub SoundAll : ℕ → Actuals → List Operation → Type 0
 SoundAll g a [] = Unit {0}
 SoundAll g a (c ∷ cs) = Sound g a c × SoundAll g a cs
 
-pub sound-listed : (g : ℕ) (a : Actuals) (f : ℕ → Operation) (n j : ℕ) → ((i : ℕ) → j ≤ i → i < j + n → Sound g a (f i)) → SoundAll g a (listed f n j)
-sound-listed g a f zero j h = tt
-sound-listed g a f (suc n) j h = (h j (omega arith) (omega arith), sound-listed g a f n (suc j) (λ i l k. h i (omega arith) (omega arith)))
+pub sound-tabulate : (g : ℕ) (a : Actuals) (f : ℕ → Operation) (n j : ℕ) → ((i : ℕ) → j ≤ i → i < j + n → Sound g a (f i)) → SoundAll g a (tabulate f n j)
+sound-tabulate g a f zero j h = tt
+sound-tabulate g a f (suc n) j h = (h j (omega arith) (omega arith), sound-tabulate g a f n (suc j) (λ i l k. h i (omega arith) (omega arith)))
 
 module _ (g : ℕ) (m : State) (P : Proper g m) where
   proper-put : (q s o : ℕ) → q < g → T (subjectIn m s) → T (objectIn m o) → Proper g (put m q s o)

@@ -1,8 +1,8 @@
 use Prim.Native.Nat.{_≤_, _-_}
 use mathlib.Core.Path.{_≡_}
 use native.Mathlib.Nat.{sub-zero}
-use Rattle.cases.specs.Cases.{each}
-use Rattle.layout.specs.Refusals.{placed}
+use Rattle.cases.specs.Cases.{all}
+use Rattle.layout.specs.Refusals.{inPlace}
 use Rattle.layout.specs.File.{startOf}
 use Rattle.layout.proofs.Tests.{start-first, start-next, pair-stop, pair-more, misplaced, ends-early, ends-right}
 use borrow.Author.Needs.{needs}
@@ -11,7 +11,7 @@ use Rattle.layout.proofs.pairs_refusal.Statement.{statement}
 use Rattle.layout.proofs.pairs_refusal.Tie as tie
 
 abbrev Inv-loop : tie.InvT-loop
-Inv-loop file pairs at₀ i₀ at i = (i ≤ pairs) × (at ≡ startOf file i) × (each (placed file) (pairs - i) i ≡ each (placed file) pairs 0)
+Inv-loop file pairs at₀ i₀ at i = (i ≤ pairs) × (at ≡ startOf file i) × (all (inPlace file) (pairs - i) i ≡ all (inPlace file) pairs 0)
 
 abbrev μ-loop : tie.MeasureT-loop
 μ-loop file pairs at₀ i₀ at i = pairs - i

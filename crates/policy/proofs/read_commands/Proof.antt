@@ -22,7 +22,7 @@ loop-holds : tie.Need-loop-holds Inv-loop μ-loop
 loop-holds c = (omega arith, search table-start, rw sub-zero)
 
 read-at-requires : tie.Need-read-at-requires Inv-loop μ-loop
-read-at-requires c κs = c .before .before .before .before .pre .1 .each (c .before .loop .i) (omega arith)
+read-at-requires c κs = c .before .before .before .before .pre .1 .all (c .before .loop .i) (omega arith)
 
 none-requires-2 : tie.Need-none-requires-2 Inv-loop μ-loop
 none-requires-2 c κs = search needs

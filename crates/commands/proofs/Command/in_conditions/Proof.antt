@@ -1,7 +1,7 @@
 use Prim.Native.Nat.{_≤_, _-_}
 use mathlib.Core.Path.{_≡_, refl}
 use native.Mathlib.Nat.{sub-zero}
-use Rattle.cases.specs.Cases.{listed}
+use Rattle.cases.specs.Cases.{tabulate}
 use Rattle.protection.specs.Command.{inConditions}
 use Rattle.commands.specs.Contents.{conditionOf}
 use Rattle.commands.proofs.Names.{condition-found, condition-next, conditions-end}
@@ -11,7 +11,7 @@ use Rattle.commands.proofs.Command.in_conditions.Statement.{statement}
 use Rattle.commands.proofs.Command.in_conditions.Tie as tie
 
 abbrev Inv-loop : tie.InvT-loop
-Inv-loop b self n j₀ j = (j ≤ n) × (n ≡ self .conditions) × (inConditions b (listed (conditionOf self) (n - j) j) ≡ inConditions b (listed (conditionOf self) (self .conditions) 0))
+Inv-loop b self n j₀ j = (j ≤ n) × (n ≡ self .conditions) × (inConditions b (tabulate (conditionOf self) (n - j) j) ≡ inConditions b (tabulate (conditionOf self) (self .conditions) 0))
 
 abbrev μ-loop : tie.MeasureT-loop
 μ-loop b self n j₀ j = n - j

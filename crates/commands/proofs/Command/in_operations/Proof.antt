@@ -1,7 +1,7 @@
 use Prim.Native.Nat.{_≤_, _-_}
 use mathlib.Core.Path.{_≡_, refl}
 use native.Mathlib.Nat.{sub-zero}
-use Rattle.cases.specs.Cases.{listed}
+use Rattle.cases.specs.Cases.{tabulate}
 use Rattle.protection.specs.Command.{inOperations}
 use Rattle.commands.specs.Contents.{operationOf}
 use Rattle.commands.proofs.Names.{operation-found, operation-next, operations-end}
@@ -11,7 +11,7 @@ use Rattle.commands.proofs.Command.in_operations.Statement.{statement}
 use Rattle.commands.proofs.Command.in_operations.Tie as tie
 
 abbrev Inv-loop : tie.InvT-loop
-Inv-loop self b n j₀ j = (j ≤ n) × (n ≡ self .operations) × (inOperations b (listed (operationOf self) (n - j) j) ≡ inOperations b (listed (operationOf self) (self .operations) 0))
+Inv-loop self b n j₀ j = (j ≤ n) × (n ≡ self .operations) × (inOperations b (tabulate (operationOf self) (n - j) j) ≡ inOperations b (tabulate (operationOf self) (self .operations) 0))
 
 abbrev μ-loop : tie.MeasureT-loop
 μ-loop self b n j₀ j = n - j

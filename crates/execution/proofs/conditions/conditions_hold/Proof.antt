@@ -1,7 +1,7 @@
 use Prim.Native.Nat.{_≤_, _-_}
 use mathlib.Core.Path.{_≡_, refl}
 use native.Mathlib.Nat.{sub-zero}
-use Rattle.cases.specs.Cases.{listed}
+use Rattle.cases.specs.Cases.{tabulate}
 use Rattle.protection.specs.Command.{valuesOf}
 use Rattle.protection.specs.Execution.{holdAll}
 use Rattle.matrix.specs.Bytes.{view}
@@ -12,7 +12,7 @@ use Rattle.execution.proofs.conditions.conditions_hold.Statement.{state
 use Rattle.execution.proofs.conditions.conditions_hold.Tie as tie
 
 abbrev Inv-loop : tie.InvT-loop
-Inv-loop kinds cells c a n j₀ j = (j ≤ n) × (n ≡ c .conditions) × (holdAll (view kinds cells) (valuesOf a) (listed (conditionOf c) (n - j) j) ≡ holdAll (view kinds cells) (valuesOf a) (listed (conditionOf c) (c .conditions) 0))
+Inv-loop kinds cells c a n j₀ j = (j ≤ n) × (n ≡ c .conditions) × (holdAll (view kinds cells) (valuesOf a) (tabulate (conditionOf c) (n - j) j) ≡ holdAll (view kinds cells) (valuesOf a) (tabulate (conditionOf c) (c .conditions) 0))
 
 abbrev μ-loop : tie.MeasureT-loop
 μ-loop kinds cells c a n j₀ j = n - j
@@ -24,7 +24,7 @@ loop-holds : tie.Need-loop-holds Inv-loop μ-loop
 loop-holds c = (omega arith, refl, rw sub-zero)
 
 condition-holds-requires : tie.Need-condition-holds-requires Inv-loop μ-loop
-condition-holds-requires c κs = c .before .before .before .pre .each (c .before .loop .j) (omega arith)
+condition-holds-requires c κs = c .before .before .before .pre .all (c .before .loop .j) (omega arith)
 
 returns : tie.Need-returns Inv-loop μ-loop
 returns c = search condition-stop

@@ -1,8 +1,8 @@
 use Prim.Native.Nat.{_≤_, _-_}
 use mathlib.Core.Path.{_≡_, refl}
 use native.Mathlib.Nat.{sub-zero}
-use Rattle.cases.specs.Cases.{each}
-use Rattle.cases.proofs.Loops.{each-stop, each-more, each-end}
+use Rattle.cases.specs.Cases.{all}
+use Rattle.cases.proofs.Loops.{all-stop, all-more, all-end}
 use mathlib.Core.List.{[]}
 use Rattle.protection.specs.Command.{valuesOf}
 use Rattle.protection.specs.Execution.{spareExists}
@@ -13,7 +13,7 @@ use Rattle.execution.proofs.conditions.spares_exist.Statement.{statemen
 use Rattle.execution.proofs.conditions.spares_exist.Tie as tie
 
 abbrev Inv-loop : tie.InvT-loop
-Inv-loop kinds c a k b₀ b = (b ≤ c .parameters) × (k ≡ c .parameters) × (each (spareExists (meaning c) (view kinds []) (valuesOf a)) (c .parameters - b) b ≡ each (spareExists (meaning c) (view kinds []) (valuesOf a)) (c .parameters) 0)
+Inv-loop kinds c a k b₀ b = (b ≤ c .parameters) × (k ≡ c .parameters) × (all (spareExists (meaning c) (view kinds []) (valuesOf a)) (c .parameters - b) b ≡ all (spareExists (meaning c) (view kinds []) (valuesOf a)) (c .parameters) 0)
 
 abbrev μ-loop : tie.MeasureT-loop
 μ-loop kinds c a k b₀ b = c .parameters - b
@@ -25,7 +25,7 @@ spare-exists-requires : tie.Need-spare-exists-requires Inv-loop μ-loop
 spare-exists-requires c κs = (c .before .before .pre, omega arith)
 
 returns : tie.Need-returns Inv-loop μ-loop
-returns c = search each-stop
+returns c = search all-stop
 
 add-b : tie.Need-add-b Inv-loop μ-loop
 add-b c = omega arith
@@ -34,10 +34,10 @@ loop-less : tie.Need-loop-less Inv-loop μ-loop
 loop-less c = omega arith
 
 loop-again : tie.Need-loop-again Inv-loop μ-loop
-loop-again c = (omega arith, refl, search each-more)
+loop-again c = (omega arith, refl, search all-more)
 
 returns-2 : tie.Need-returns-2 Inv-loop μ-loop
-returns-2 c = search each-end
+returns-2 c = search all-end
 
 pub spares-exist-spec : {M : Type 1} → statement M
 spares-exist-spec =

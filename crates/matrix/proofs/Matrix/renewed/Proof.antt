@@ -2,8 +2,8 @@ use Prim.Native.Nat.{_≤_, _-_}
 use mathlib.Core.Path.{_≡_}
 use native.Mathlib.Nat.{sub-zero}
 use lib.ListN.{length, length-set}
-use Rattle.cases.specs.Cases.{turns}
-use Rattle.cases.proofs.Loops.{turns-more}
+use Rattle.cases.specs.Cases.{iterate}
+use Rattle.cases.proofs.Loops.{iterate-more}
 use Rattle.matrix.specs.Matrices.{emptied}
 use Rattle.matrix.proofs.Operations.{renewed-is}
 use borrow.Author.Needs.{needs}
@@ -12,7 +12,7 @@ use Rattle.matrix.proofs.Matrix.renewed.Statement.{statement}
 use Rattle.matrix.proofs.Matrix.renewed.Tie as tie
 
 abbrev Inv-loop : tie.InvT-loop
-Inv-loop n kind kinds cells₀ j₀ cells j = (j ≤ 32) × (length cells ≡ 1024) × (turns (emptied n) (32 - j) j cells ≡ turns (emptied n) 32 0 cells₀)
+Inv-loop n kind kinds cells₀ j₀ cells j = (j ≤ 32) × (length cells ≡ 1024) × (iterate (emptied n) (32 - j) j cells ≡ iterate (emptied n) 32 0 cells₀)
 
 abbrev μ-loop : tie.MeasureT-loop
 μ-loop n kind kinds cells₀ j₀ cells j = 32 - j
@@ -45,7 +45,7 @@ loop-less : tie.Need-loop-less Inv-loop μ-loop
 loop-less c = omega arith
 
 loop-again : tie.Need-loop-again Inv-loop μ-loop
-loop-again c = (omega arith, simp length-set (omega arith), search turns-more)
+loop-again c = (omega arith, simp length-set (omega arith), search iterate-more)
 
 array-write-kinds : tie.Need-array-write-kinds Inv-loop μ-loop
 array-write-kinds c = search needs

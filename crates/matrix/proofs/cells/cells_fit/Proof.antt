@@ -1,8 +1,8 @@
 use Prim.Native.Nat.{_≤_, _-_}
 use mathlib.Core.Path.{_≡_}
 use native.Mathlib.Nat.{sub-zero}
-use Rattle.cases.specs.Cases.{each}
-use Rattle.cases.proofs.Loops.{each-end, each-stop, each-more}
+use Rattle.cases.specs.Cases.{all}
+use Rattle.cases.proofs.Loops.{all-end, all-stop, all-more}
 use Rattle.matrix.specs.Refusals.{cellFits}
 use borrow.Author.Needs.{needs}
 use native.Mathlib.Omega.{arith}
@@ -10,7 +10,7 @@ use Rattle.matrix.proofs.cells.cells_fit.Statement.{statement}
 use Rattle.matrix.proofs.cells.cells_fit.Tie as tie
 
 abbrev Inv-loop : tie.InvT-loop
-Inv-loop g kinds cells c₀ c = (c ≤ 1024) × (each (cellFits g kinds cells) (1024 - c) c ≡ each (cellFits g kinds cells) 1024 0)
+Inv-loop g kinds cells c₀ c = (c ≤ 1024) × (all (cellFits g kinds cells) (1024 - c) c ≡ all (cellFits g kinds cells) 1024 0)
 
 abbrev μ-loop : tie.MeasureT-loop
 μ-loop g kinds cells c₀ c = 1024 - c
@@ -22,7 +22,7 @@ cell-fits-requires : tie.Need-cell-fits-requires Inv-loop μ-loop
 cell-fits-requires c κs = search needs
 
 returns : tie.Need-returns Inv-loop μ-loop
-returns c = search each-stop
+returns c = search all-stop
 
 add-c : tie.Need-add-c Inv-loop μ-loop
 add-c c = omega arith
@@ -31,10 +31,10 @@ loop-less : tie.Need-loop-less Inv-loop μ-loop
 loop-less c = omega arith
 
 loop-again : tie.Need-loop-again Inv-loop μ-loop
-loop-again c = (omega arith, search each-more)
+loop-again c = (omega arith, search all-more)
 
 returns-2 : tie.Need-returns-2 Inv-loop μ-loop
-returns-2 c = search each-end
+returns-2 c = search all-end
 
 pub cells-fit-spec : {M : Type 1} → statement M
 cells-fit-spec =

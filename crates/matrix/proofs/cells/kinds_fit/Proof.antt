@@ -1,8 +1,8 @@
 use Prim.Native.Nat.{_≤_, _-_}
 use mathlib.Core.Path.{_≡_}
 use native.Mathlib.Nat.{sub-zero}
-use Rattle.cases.specs.Cases.{each}
-use Rattle.cases.proofs.Loops.{each-end}
+use Rattle.cases.specs.Cases.{all}
+use Rattle.cases.proofs.Loops.{all-end}
 use Rattle.matrix.specs.Refusals.{kindFits}
 use Rattle.matrix.proofs.Tests.{kind-stop, kind-more}
 use borrow.Author.Needs.{needs}
@@ -11,7 +11,7 @@ use Rattle.matrix.proofs.cells.kinds_fit.Statement.{statement}
 use Rattle.matrix.proofs.cells.kinds_fit.Tie as tie
 
 abbrev Inv-loop : tie.InvT-loop
-Inv-loop kinds x₀ x = (x ≤ 32) × (each (kindFits kinds) (32 - x) x ≡ each (kindFits kinds) 32 0)
+Inv-loop kinds x₀ x = (x ≤ 32) × (all (kindFits kinds) (32 - x) x ≡ all (kindFits kinds) 32 0)
 
 abbrev μ-loop : tie.MeasureT-loop
 μ-loop kinds x₀ x = 32 - x
@@ -35,7 +35,7 @@ loop-again : tie.Need-loop-again Inv-loop μ-loop
 loop-again c = (omega arith, search kind-more)
 
 returns-2 : tie.Need-returns-2 Inv-loop μ-loop
-returns-2 c = search each-end
+returns-2 c = search all-end
 
 pub kinds-fit-spec : {M : Type 1} → statement M
 kinds-fit-spec =
