@@ -39,7 +39,7 @@ unfoldable pub commandRead : ℕ → List ℕ → CommandRead
 commandRead g p = record { refused = commandRefusal g p; command = pick (eqb (commandRefusal g p) 0) (commandOf p) noCommand }
 
 -- ---- what they stand for
--- "each 3 bytes (right, subject blank, object blank)"
+-- "conditions of 3 bytes (right, subject blank, object blank)"
 abbrev pub conditionOf : Command → ℕ → Condition
 conditionOf c j = record { right = getD (c .condition) (3 * j) 0; subject = getD (c .condition) (3 * j + 1) 0; object = getD (c .condition) (3 * j + 2) 0 }
 
@@ -53,7 +53,7 @@ operationBy kind q s o =
     (pick (eqb kind 5) (DestroySubject s)
     (DestroyObject s)))))
 
--- "each 4 bytes (kind, right, first blank, second blank)"
+-- "steps of 4 bytes (kind, right, first blank, second blank)"
 abbrev pub operationAt : Command → ℕ → CodeOperation
 operationAt c j = operationBy (getD (c .operation) (4 * j) 0) (getD (c .operation) (4 * j + 1) 0) (getD (c .operation) (4 * j + 2) 0) (getD (c .operation) (4 * j + 3) 0)
 

@@ -65,7 +65,7 @@ lines p [] = []
 lines p (x ∷ xs) = stepLine p x ++ lines p xs
 
 -- ---- the whole
--- "It prints `SAFE n`, or `UNSAFE n` followed by a line a step, or `REFUSED n`." "Its n is the steps written, or the refusal."
+-- "It prints `SAFE n`, or `UNSAFE n` followed by a line a step .., or `REFUSED n`." "Its n is the steps written, or the refusal."
 abbrev pub printed : Policy → Judgement → List Call → List ℕ
 printed p (Refused n) xs = head refusedWord n
 printed p (Safe n) xs = head safeWord n

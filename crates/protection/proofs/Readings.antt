@@ -11,7 +11,8 @@ use Rattle.protection.specs.State.{Kind, absent, object, subject, State}
 use Rattle.protection.specs.Command.{Condition, Operation, enter, delete, createSubject, createObject, destroySubject, destroyObject, Command, System, Call}
 use Rattle.protection.specs.Execution.{bounded, unbounded, Outcome, refused, execute}
 use Rattle.protection.specs.Leak.{leaks, anyRefused, LeaksLast}
-use Rattle.protection.specs.Judge.{lowestAbsent, rounds, count, Verdict, judge}
+use Rattle.protection.specs.Size.{count}
+use Rattle.protection.specs.Judge.{lowestAbsent, rounds, Verdict, judge}
 
 -- ---- small states, systems and calls
 -- a right in a cell

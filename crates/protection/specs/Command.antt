@@ -37,6 +37,7 @@ pub record Call : Type 0 where
 abbrev pub Actuals : Type 0
 Actuals = ℕ → ℕ
 
+-- a call gives four; past these nothing is asked, and 0 stands there
 abbrev pub valuesOf : List ℕ → Actuals
 valuesOf l b = getD l b 0
 

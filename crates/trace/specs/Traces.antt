@@ -6,7 +6,7 @@ use Rattle.cases.specs.Cases.{tabulate}
 use Rattle.protection.specs.Command.{Call}
 use Rattle.trace.specs.declared.Step.{Step}
 
--- the five bytes of step i, as the struct `Step` and as a call
+-- the five bytes of step i, as the struct `Step` and as a call; it is asked only of steps that the trace has, and a byte past its end reads as 0
 abbrev pub stepAt : List ℕ → ℕ → Step
 stepAt t i = record { command = getD t (5 * i) 0; actuals = getD t (5 * i + 1) 0 ∷ getD t (5 * i + 2) 0 ∷ getD t (5 * i + 3) 0 ∷ getD t (5 * i + 4) 0 ∷ [] }
 
