@@ -9,7 +9,8 @@ use Rattle.safety.specs.Demand3.{stepsWritten}
 use Rattle.safety.specs.Judgement.{fileJudgement, judgementCode, Judged}
 use Rattle.safety.specs.declared.Judgement.{Judgement}
 use Rattle.safety.specs.declared.Judgement.the-variants.{Refused as Refuses, Safe, Unsafe}
-use Rattle.exports.specs.Boundary.{ReplayAnswer, JudgeAnswer}
+use Rattle.exports.specs.Replay.{ReplayAnswer}
+use Rattle.exports.specs.Judge.{JudgeAnswer}
 
 module _ (a x : Replay) (e : x ≡ a) where
   pub no-leak : x ≡ NoLeak → ReplayAnswer a 0 0

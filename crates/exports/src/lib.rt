@@ -3,7 +3,8 @@ ghost use mathlib.Core.Path.{_≡_};
 ghost use Rattle.policy.specs.Refusals.{refusal};
 ghost use Rattle.update.specs.Files.{FileRun};
 ghost use Rattle.trace.specs.Replays.{fileReplay};
-ghost use Rattle.exports.specs.Boundary.{ReplayAnswer, JudgeAnswer};
+ghost use Rattle.exports.specs.Replay.{ReplayAnswer};
+ghost use Rattle.exports.specs.Judge.{JudgeAnswer};
 use safety::Judgement;
 use trace::Replay;
 

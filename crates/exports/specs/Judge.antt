@@ -1,16 +1,10 @@
--- Answers as numbers at the C boundary.
+-- The judge's answer as numbers at the C boundary.
 use Prim.Native.Nat.{ℕ}
 use mathlib.Core.Path.{_≡_}
 use mathlib.Core.List.{List}
 use lib.ListN.{length}
-use Rattle.trace.specs.Replays.{replayCode, replayStep}
-use Rattle.trace.specs.declared.Replay.{Replay}
 use Rattle.safety.specs.Demand3.{stepsWritten}
 use Rattle.safety.specs.Judgement.{fileJudgement, judgementCode, Judged}
-
-pub record ReplayAnswer (a : Replay) (r step : ℕ) : Type 0 where
-  pub code : r ≡ replayCode a
-  pub at : step ≡ replayStep a
 
 -- the judge's answer, its count of steps, and its whole promise, `Judged`, with the buffer b' after it
 pub record JudgeAnswer (f : List ℕ) (right : ℕ) (b : List ℕ) (r steps : ℕ) (b' : List ℕ) : Type 0 where
