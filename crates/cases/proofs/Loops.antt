@@ -76,10 +76,10 @@ all-at p (suc n) j e i l h = go (p j) refl (λ d l'. all-at p n (suc j) d i l' (
         elim-false z = let w : _≡_ {A = ℕ} 0 1 = cc in omega arith
 
 -- and the other way: where it holds at all n numbers
-pub all-of : (p : ℕ → Bool) (n j : ℕ) → ((i : ℕ) → j ≤ i → i < j + n → p i ≡ true) → all p n j ≡ true
+pub all-intro : (p : ℕ → Bool) (n j : ℕ) → ((i : ℕ) → j ≤ i → i < j + n → p i ≡ true) → all p n j ≡ true
 unfolding all
-all-of p zero j h = refl
-all-of p (suc n) j h = rw (h j (omega arith) (omega arith)) (all-of p n (suc j) (λ i l k. h i (omega arith) (omega arith)))
+all-intro p zero j h = refl
+all-intro p (suc n) j h = rw (h j (omega arith) (omega arith)) (all-intro p n (suc j) (λ i l k. h i (omega arith) (omega arith)))
 
 -- tests that agree at all n numbers
 pub all-same : (p q : ℕ → Bool) (n j : ℕ) → ((i : ℕ) → j ≤ i → i < j + n → p i ≡ q i) → all p n j ≡ all q n j

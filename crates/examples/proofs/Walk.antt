@@ -9,7 +9,7 @@ use lib.Dec.{eqb, ltb}
 use lib.ListN.{getD}
 use borrow.Author.Tests.{eqb-true, lt-ltb, le-ltb}
 use Rattle.cases.specs.Cases.{pick, all}
-use Rattle.cases.proofs.Loops.{all-of}
+use Rattle.cases.proofs.Loops.{all-intro}
 use Rattle.rights.specs.Rights.{within}
 use Rattle.protection.specs.Limits.{names}
 use Rattle.matrix.specs.Bytes.{inside}
@@ -71,7 +71,7 @@ cells-walked g n ks cs =
 -- no cell set: they fit
 no-cells : (g n : ℕ) (ks : List ℕ) → all (cellFits g ks []) n 0 ≡ true
 unfolding cellFits
-no-cells g n ks = all-of (cellFits g ks []) n 0 (λ i _ _. byte-fits g (inside ks (i / names) (i % names)) 0)
+no-cells g n ks = all-intro (cellFits g ks []) n 0 (λ i _ _. byte-fits g (inside ks (i / names) (i % names)) 0)
 
 -- a first cell with right g: they do not
 cell-over : (g n : ℕ) (ks : List ℕ) → all (cellFits g ks (2 ^ g ∷ [])) (suc n) 0 ≡ false

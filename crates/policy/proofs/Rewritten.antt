@@ -10,7 +10,7 @@ use lib.Dec.{T, leb, eqb, ltb}
 use lib.ListN.{length, getD, take, drop, length-drop, length-append, take-append-drop, List·getD-append}
 use lib.Seq.{length-take-le, drop-at, take-at, drop-drop, getD-take, drop-append-le, take-append-le}
 use Rattle.cases.specs.Cases.{pick, all, tabulate}
-use Rattle.cases.proofs.Loops.{all-of, all-same}
+use Rattle.cases.proofs.Loops.{all-intro, all-same}
 use Rattle.cases.proofs.Lists.{tabulate-same}
 use Rattle.rights.specs.Rights.{within}
 use Rattle.protection.specs.Limits.{names, rights, commands, fileBytes}
@@ -198,9 +198,9 @@ module _ (f : List ℕ) (A : Accepted f) (m : State) (P : Proper (rightsOf f) m)
   matrix-fits : matrixRefusal (rightsOf (written f m)) (kindsIn (written f m)) (cellsIn (written f m)) ≡ 0
   unfolding matrixRefusal cellFits
   matrix-fits =
-      let a : all (kindFits (kindsOf m)) names 0 ≡ true = all-of (kindFits (kindsOf m)) names 0 (λ x _ _. le-leb (byte (kindsOf m) x) 2 (K .kinds-fit x)) in
+      let a : all (kindFits (kindsOf m)) names 0 ≡ true = all-intro (kindFits (kindsOf m)) names 0 (λ x _ _. le-leb (byte (kindsOf m) x) 2 (K .kinds-fit x)) in
       let b : all (cellFits (rightsOf f) (kindsOf m) (cellsOf m)) (names * names) 0 ≡ true =
-      all-of (cellFits (rightsOf f) (kindsOf m) (cellsOf m)) (names * names) 0 (λ c _ l. cell c (omega arith)) in
+      all-intro (cellFits (rightsOf f) (kindsOf m) (cellsOf m)) (names * names) 0 (λ c _ l. cell c (omega arith)) in
       rw (rights-stay, kinds-written, cells-written, a, b)
     where
       cell : (c : ℕ) → c < names * names → cellFits (rightsOf f) (kindsOf m) (cellsOf m) c ≡ true

@@ -12,7 +12,7 @@ use lib.Dec.{T, eqb, ltb, eqb→eq, ltb→lt}
 use Rattle.cases.specs.Cases.{pick, all, tabulate}
 use Rattle.cases.proofs.Bools.{and-right, both, or-cases, holds as test-holds}
 use Rattle.cases.proofs.Lists.{getD-tabulate}
-use Rattle.cases.proofs.Loops.{all-of, all-one}
+use Rattle.cases.proofs.Loops.{all-intro, all-one}
 use Rattle.protection.specs.Limits.{names, parameters, unused}
 use Rattle.protection.specs.State.{State, objectIn, subjectIn}
 use Rattle.protection.specs.Command.{Condition, Operation, enter, delete, Command, System, Actuals, actuals, inConditions, inOperation, inOperations, named}
@@ -103,7 +103,7 @@ module _ (g : ℕ) (C : Command) (F : Single g C) (n : ℕ) (a : Actuals) (small
             inside = in-places p (isCreate (operationIn C) && eqb n names) full l;
             agrees = λ b h. at b (omega (arith, F .few)) ∙ rw (lt-ltb b (C .parameters) h);
             fits = test-holds (all (actualFits bounded (C .parameters) (actuals (callAt i C n p))) parameters 0)
-                (all-of (actualFits bounded (C .parameters) (actuals (callAt i C n p))) parameters 0
+                (all-intro (actualFits bounded (C .parameters) (actuals (callAt i C n p))) parameters 0
                 (λ b _ h. fit (ltb b (C .parameters)) b (actuals (callAt i C n p) b) (λ t. small b (ltb→lt b (C .parameters) t)) (at b (rw zero-add at h))));
           }
 

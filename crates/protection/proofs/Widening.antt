@@ -12,7 +12,7 @@ use lib.Dec.{T, eqb, ltb}
 use lib.ListN.{getElem?}
 use Rattle.cases.specs.Cases.{pick, all}
 use Rattle.cases.proofs.Bools.{is-true, fails, holds as test-holds, or-cases, or-left, or-right}
-use Rattle.cases.proofs.Loops.{all-at, all-of}
+use Rattle.cases.proofs.Loops.{all-at, all-intro}
 use Rattle.protection.specs.Limits.{parameters, unused}
 use Rattle.protection.specs.State.{State}
 use Rattle.protection.specs.Command.{Command, System, Call, actuals}
@@ -50,7 +50,7 @@ carries P Q S x h m m' new e = go (getElem? (S .commands) (x .command)) refl e
             → executeCommand Q m (some C) (actuals x) ≡ done m' new
         gates true d e =
             let z : all (actualFits Q (C .parameters) (actuals x)) parameters 0 ≡ true =
-            all-of (actualFits Q (C .parameters) (actuals x)) parameters 0 (λ b l k. fits b (all-at (actualFits P (C .parameters) (actuals x)) parameters 0 d b l k)) in
+            all-intro (actualFits Q (C .parameters) (actuals x)) parameters 0 (λ b l k. fits b (all-at (actualFits P (C .parameters) (actuals x)) parameters 0 d b l k)) in
             rw z e
         gates false d e = absurd (let z : _≡_ {A = ℕ} 0 1 = cc in omega arith)
 

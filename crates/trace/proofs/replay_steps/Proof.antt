@@ -195,8 +195,8 @@ module _ {M : Type 1} (𝓤 : URA M) (H : Heap 𝓤) (A : Atoms 𝓤) (W : Given
   Token = flft κ q
 
   -- what the contract says of the result
-  abbrev whole : Replay
-  whole = replayFrom (systemOf p) right (calls (now s) (stepsIn (now s))) 0 (stateOf (p .matrix))
+  abbrev replayed : Replay
+  replayed = replayFrom (systemOf p) right (calls (now s) (stepsIn (now s))) 0 (stateOf (p .matrix))
 
   len-fits : length (now s) < 2 ^ 64
   len-fits = shr-slice-lawful 𝓤 H A W (named 0) κ u8 .typed s (v ∷ []) is-s .0 .1 .1 .0 .fits
@@ -261,7 +261,7 @@ module _ {M : Type 1} (𝓤 : URA M) (H : Heap 𝓤) (A : Atoms 𝓤) (W : Given
   end-said : (a : Answer) (i : ℕ) (x : Replay) → ent 𝓤 (ensured 𝓤 H A end.ended (end.clauses 𝓤 H A mem run) tt (a, (i, tt)) tt x) (fact 𝓤 (x ≡ endOf a i))
   end-said a i x = exE 𝓤 _ (λ ws. snd∗ 𝓤 (sem 𝓤 H A (lasts end.ended tt (a, (i, tt)) ws)) (fact 𝓤 (x ≡ endOf a i)))
 
-  exits : (x : Replay) (u : Val) → Is Rp.the-row x (u ∷ []) → x ≡ whole → ent 𝓤 (⋆ 𝓤 H A ((‵ Token ⊛ ‵ ftrue) ∷ ‵ Own ∷ [])) (Post u)
+  exits : (x : Replay) (u : Val) → Is Rp.the-row x (u ∷ []) → x ≡ replayed → ent 𝓤 (⋆ 𝓤 H A ((‵ Token ⊛ ‵ ftrue) ∷ ‵ Own ∷ [])) (Post u)
   exits x u is e =
       qed W ((‵ Token ⊛ ‵ ftrue) ∷ ‵ Own ∷ []) ∵
       suffices ! _ (ends-at 𝓤 H A replay.ended stayed (replay.clauses 𝓤 H A mem run) W (((κ, tt), (q, tt), tt, (p, (s, (right, tt))), at), tt) u x (tt, (tt, (tt, tt))) (tt, (tt, (tt, tt)))) $ says ! e $
@@ -302,7 +302,7 @@ module _ {M : Type 1} (𝓤 : URA M) (H : Heap 𝓤) (A : Atoms 𝓤) (W : Given
     abbrev Facts : ℕ → TraceReader × Matrix → Type 0
     Facts k z =
         (n - z .0 .at ≡ k) × (z .0 .trace ≡ s) × Is Mx.the-row (z .1) (valM (z .1) ∷ []) × Canonical 8 (z .1 .kinds) (z .1 .cells)
-        × (replayFrom (systemOf p) right (tabulate (stepCall (now s)) (n - z .0 .at) (z .0 .at)) (z .0 .at) (stateOf (z .1)) ≡ whole)
+        × (replayFrom (systemOf p) right (tabulate (stepCall (now s)) (n - z .0 .at) (z .0 .at)) (z .0 .at) (stateOf (z .1)) ≡ replayed)
 
     -- the invariant, where k steps are left
     abbrev Inv : ℕ → SProp 𝓤
@@ -324,7 +324,7 @@ module _ {M : Type 1} (𝓤 : URA M) (H : Heap 𝓤) (A : Atoms 𝓤) (W : Given
         ∷ ‵ (froom reader l₆ 0) ∷ ‵ (fdies reader l₆) ∷ ‵ (froom M′.mir l₅ 0) ∷ ‵ (fdies M′.mir l₅) ∷ ‵ (froom (tyInt w64) l₄ 0) ∷ ‵ (fdies (tyInt w64) l₄)
         ∷ ‵ (froom (tyInt w8) l₃ 0) ∷ ‵ (fdies (tyInt w8) l₃) ∷ ‵ (froom slice l₂ 0) ∷ ‵ (fdies slice l₂) ∷ ‵ (froom P′.mir l₁ 0) ∷ ‵ (fdies P′.mir l₁) ∷ ‵ (froom Rp′.mir l₀ 0) ∷ ‵ (fdies Rp′.mir l₀) ∷ []
 
-    leaves : (r : TraceReader) (x : Replay) (u : Val) → Is Rp.the-row x (u ∷ []) → x ≡ whole → Sq W ((‵ Token ⊛ ‵ ftrue) ∷ ‵ (OwnR r) ∷ ‵ Own ∷ Rooms) (frees En (prop (Post u)))
+    leaves : (r : TraceReader) (x : Replay) (u : Val) → Is Rp.the-row x (u ∷ []) → x ≡ replayed → Sq W ((‵ Token ⊛ ‵ ftrue) ∷ ‵ (OwnR r) ∷ ‵ Own ∷ Rooms) (frees En (prop (Post u)))
     leaves r x u is e =
         move ! (35 ∷ 36 ∷ []) $ free1 ! $ move ! (33 ∷ 34 ∷ []) $ free1 ! $ move ! (31 ∷ 32 ∷ []) $ free1 ! $ move ! (29 ∷ 30 ∷ []) $ free1 ! $ move ! (27 ∷ 28 ∷ []) $ free1 ! $ move ! (25 ∷ 26 ∷ []) $ free1 ! $ move ! (23 ∷ 24 ∷ []) $ free1 ! $
         move ! (21 ∷ 22 ∷ []) $ free1 ! $ move ! (19 ∷ 20 ∷ []) $ free1 ! $ move ! (17 ∷ 18 ∷ []) $ free1 ! $ move ! (15 ∷ 16 ∷ []) $ free1 ! $ move ! (13 ∷ 14 ∷ []) $ free1 ! $ move ! (11 ∷ 12 ∷ []) $ free1 ! $
@@ -332,7 +332,7 @@ module _ {M : Type 1} (𝓤 : URA M) (H : Heap 𝓤) (A : Atoms 𝓤) (W : Given
         keep ! (0 ∷ 2 ∷ []) $ by ! (exits x u is e)
 
     -- the turn that leaves the loop
-    ends : (r : TraceReader) (m : Matrix) (K : SProp 𝓤) → ltb (r .at) n ≡ false → NoLeak ≡ whole → ent 𝓤 (⋆ 𝓤 H A (At r m)) (Wp 𝓤 H C Λ En mirs.turn-1 (afterTurn 𝓤 H K Left))
+    ends : (r : TraceReader) (m : Matrix) (K : SProp 𝓤) → ltb (r .at) n ≡ false → NoLeak ≡ replayed → ent 𝓤 (⋆ 𝓤 H A (At r m)) (Wp 𝓤 H C Λ En mirs.turn-1 (afterTurn 𝓤 H K Left))
     unfolding afterTurn
     ends r m K over e =
         qed W (At r m) ∵ peeks ! (B (κ, tt)) (Is (B (κ, tt))) (shows 𝓤 H A (B (κ, tt))) r (T′.lowered r ∷ []) (λ is. exec ! C Λ En mirs.turn-1 (anyQ (afterTurn 𝓤 H K Left)) $
@@ -374,7 +374,7 @@ module _ {M : Type 1} (𝓤 : URA M) (H : Heap 𝓤) (A : Atoms 𝓤) (W : Given
       at-fits : r .at < 2 ^ 64
       at-fits = LL.owed (T.the-type α) (T′.the-laws α) r _ is .1 .0 .1
 
-      stopped : (t : Step) (e : Executed) (a : Answer) → Is An.the-row a (valA a ∷ []) → ((x : Replay) → x ≡ endOf a (r .at) → x ≡ whole) → Sq W (Mid r m t e a) (runs C Λ En the-end Then)
+      stopped : (t : Step) (e : Executed) (a : Answer) → Is An.the-row a (valA a ∷ []) → ((x : Replay) → x ≡ endOf a (r .at) → x ≡ replayed) → Sq W (Mid r m t e a) (runs C Λ En the-end Then)
       unfolding afterTurn
       stopped t e a is-a reported =
           assigns ! (of-opd ! (load ! (from ! (fld ! refl (stop !))) (look-in ! 23 (sub ! 1 refl (whole !))))) (from ! (stop !)) (init ! 5 refl (tt, record { fits = at-fits })) $
@@ -406,7 +406,7 @@ module _ {M : Type 1} (𝓤 : URA M) (H : Heap 𝓤) (A : Atoms 𝓤) (W : Given
 
       -- by cases on the answer: the tag is then a numeral, and what is left computes to the arm that runs
       matched : (t : Step) (e : Executed) (a : Answer) → Is An.the-row a (valA a ∷ []) → e .answer ≡ a → Is Mx.the-row (e .matrix) (valM (e .matrix) ∷ []) → r .at + 1 < 2 ^ 64
-          → ((x : Replay) → (tagOf (declared enum) (e .answer) ≡ 0) ⊎ (tagOf (declared enum) (e .answer) ≡ 2) → x ≡ endOf (e .answer) (r .at) → x ≡ whole)
+          → ((x : Replay) → (tagOf (declared enum) (e .answer) ≡ 0) ⊎ (tagOf (declared enum) (e .answer) ≡ 2) → x ≡ endOf (e .answer) (r .at) → x ≡ replayed)
           → (e .answer ≡ Done → (r′ : TraceReader) → (r′ .trace ≡ r .trace) × (r′ .at ≡ r .at + 1) → ent 𝓤 (⋆ 𝓤 H A (At r′ (e .matrix))) K)
           → Sq W (Mid r m t e a) (runs C Λ En (seq the-match the-rest) Next)
       matched t e (Refused c) is-a eq is-m below reported again =
@@ -420,9 +420,9 @@ module _ {M : Type 1} (𝓤 : URA M) (H : Heap 𝓤) (A : Atoms 𝓤) (W : Given
           stopped t e Leaked is-a (λ x said. reported x (inr (ap (tagOf (declared enum)) eq)) (said ∙ ap (λ (w : Answer). endOf w (r .at)) (sym eq)))
 
     more : (r : TraceReader) (m : Matrix) (K : SProp 𝓤) → ltb (r .at) n ≡ true → r .trace ≡ s → Is Mx.the-row m (valM m ∷ []) → Canonical 8 (m .kinds) (m .cells)
-        → replayFrom (systemOf p) right (tabulate (stepCall (now s)) (n - r .at) (r .at)) (r .at) (stateOf m) ≡ whole
+        → replayFrom (systemOf p) right (tabulate (stepCall (now s)) (n - r .at) (r .at)) (r .at) (stateOf m) ≡ replayed
         → ((r′ : TraceReader) (e : Executed) → (r′ .trace ≡ s) × (r′ .at ≡ r .at + 1) → Is Mx.the-row (e .matrix) (valM (e .matrix) ∷ []) → Canonical 8 (e .matrix .kinds) (e .matrix .cells)
-        → replayFrom (systemOf p) right (tabulate (stepCall (now s)) (n - r′ .at) (r′ .at)) (r′ .at) (stateOf (e .matrix)) ≡ whole → ent 𝓤 (⋆ 𝓤 H A (At r′ (e .matrix))) K)
+        → replayFrom (systemOf p) right (tabulate (stepCall (now s)) (n - r′ .at) (r′ .at)) (r′ .at) (stateOf (e .matrix)) ≡ replayed → ent 𝓤 (⋆ 𝓤 H A (At r′ (e .matrix))) K)
         → ent 𝓤 (⋆ 𝓤 H A (At r m)) (Wp 𝓤 H C Λ En mirs.turn-1 (afterTurn 𝓤 H K Left))
     unfolding afterTurn
     more r m K on same is-m can inv again =
@@ -450,8 +450,8 @@ module _ {M : Type 1} (𝓤 : URA M) (H : Heap 𝓤) (A : Atoms 𝓤) (W : Given
         rewrite ! 19 (λ (w : Val). ‵ (fat fullShare X′.mir l₈ 0 w)) (ap only (LL.tells X.the-type X′.the-laws e _ is-e)) refl $
         assigns ! (of-opd ! (load ! (from ! (fld ! refl (stop !))) (look-in ! 19 (sub ! 0 refl (whole !))))) (from ! (stop !)) (init ! 17 refl (EL.lawful An.the-type An′.the-laws 𝓤 H A W tt .typed (e .answer) _ (LL.owed X.the-type X′.the-laws e _ is-e .0) .0)) $
         matched r m K is t e (e .answer) (LL.owed X.the-type X′.the-laws e _ is-e .0) refl (LL.owed X.the-type X′.the-laws e _ is-e .1 .0) below
-        (λ x d f. replay-stop p (now s) right n (r .at) m t (here t t-is) e ran (ltb-true (r .at) n on) whole inv x d f)
-        (λ d r′ said. again r′ e (said .0 ∙ same, said .1) (LL.owed X.the-type X′.the-laws e _ is-e .1 .0) (ran .canonical) (replay-more p (now s) right n (r .at) m t (here t t-is) e ran (ltb-true (r .at) n on) whole inv (r′ .at) (said .1) d)))))))))))
+        (λ x d f. replay-stop p (now s) right n (r .at) m t (here t t-is) e ran (ltb-true (r .at) n on) replayed inv x d f)
+        (λ d r′ said. again r′ e (said .0 ∙ same, said .1) (LL.owed X.the-type X′.the-laws e _ is-e .1 .0) (ran .canonical) (replay-more p (now s) right n (r .at) m t (here t t-is) e ran (ltb-true (r .at) n on) replayed inv (r′ .at) (said .1) d)))))))))))
       where
         within : 5 * r .at + 5 ≤ length (now (r .trace))
         within = subst (λ (x : RefT (List ℕ)). 5 * r .at + 5 ≤ length (now x)) (sym same) (in-steps (r .at) (length (now s)) (ltb-true (r .at) n on))
@@ -476,7 +476,7 @@ module _ {M : Type 1} (𝓤 : URA M) (H : Heap 𝓤) (A : Atoms 𝓤) (W : Given
         go true on = more (z .0) (z .1) (Below k) on (f .1) (f .2) (f .3) (f .4) (λ r′ e said is-m can inv.
             falls k (n - r′ .at) (r′, e .matrix) (subst (λ (j : ℕ). n - r′ .at < j) (f .0) (less (z .0 .at) (r′ .at) n (ltb-true (z .0 .at) n on) (said .1)))
             (refl, said .0, is-m, can, inv))
-        go false over = ends (z .0) (z .1) (Below k) over (replay-end p (now s) right n (z .0 .at) (z .1) whole (ltb-false (z .0 .at) n over) (f .4))
+        go false over = ends (z .0) (z .1) (Below k) over (replay-end p (now s) right n (z .0 .at) (z .1) replayed (ltb-false (z .0 .at) n over) (f .4))
 
     iterate : (k : ℕ) → ent 𝓤 (Inv k) (Wp 𝓤 H C Λ En mirs.turn-1 (afterTurn 𝓤 H (Below k) Left))
     iterate k = exE 𝓤 (λ (z : TraceReader × Matrix). guard 𝓤 (Facts k z) (⋆ 𝓤 H A (At (z .0) (z .1)))) (λ z. guardE 𝓤 (Facts k z) (⋆ 𝓤 H A (At (z .0) (z .1))) (λ f. turn-at k z f))
