@@ -413,7 +413,11 @@ fn groups(scene: &Scene, report: &mut Report) {
         let name = format!("killed at each system call: {way:?}");
         report.group(&name, 100, |group| kill_at_each(scene, group, way));
     }
-    for (way, error) in [(Way::Log, IO_ERROR), (Way::Mending, NO_SPACE)] {
+    for (way, error) in [
+        (Way::Log, IO_ERROR),
+        (Way::NewLog, NO_SPACE),
+        (Way::Mending, NO_SPACE),
+    ] {
         let name = format!("each system call fails: {way:?}, error {error}");
         report.group(&name, 50, |group| fail_each(scene, group, way, error));
     }

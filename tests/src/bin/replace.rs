@@ -212,7 +212,7 @@ fn size_limit(scene: &Scene, group: &mut Group) {
     let mut log = step(9).repeat(819);
     scene.write(LOG, &log);
     let answer = limited("4", &format!("--log {LOG}"));
-    let told = answer.stopped("the next run on this file adds it");
+    let told = answer.stopped("the next run on this file sees to the step");
     let changed = scene.read(FILE) == after(&table(), 0) && scene.read(LOG) == log;
     group.input(told && changed, || format!("limit for the log: {answer:?}"));
     let answer = said(&mut scene.run(1, &[]));
