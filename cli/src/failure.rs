@@ -65,7 +65,25 @@ fn mistake_json(path: &str, mistake: &Mistake) -> Json {
         ("line", mistake.line.into()),
         ("column", mistake.column.into()),
         ("expected", mistake.expected.clone().into()),
+        (
+            "earlier",
+            mistake.earlier.as_ref().map_or(Json::Null, earlier),
+        ),
     ])
+}
+
+fn earlier((line, what): &(usize, String)) -> Json {
+    Json::Object(vec![
+        ("line", (*line).into()),
+        ("what", what.clone().into()),
+    ])
+}
+
+/// What the system says went wrong, without its number.
+pub fn told(wrong: &std::io::Error) -> String {
+    let text = wrong.to_string();
+    let end = text.find(" (os error").unwrap_or(text.len());
+    text[..end].to_string()
 }
 
 impl From<Problem> for Failure {

@@ -1,6 +1,6 @@
 //! What a command works on: a house file or a table, read whole, and the words for what is in it.
 
-use crate::failure::Failure;
+use crate::failure::{told, Failure};
 use crate::house::decode::decode;
 use crate::house::encode::encode;
 use crate::house::sections::same_rules;
@@ -51,7 +51,7 @@ pub fn bytes(path: &OsStr) -> Result<Vec<u8>, Failure> {
     match read {
         Ok(_) => Ok(bytes),
         Err(wrong) => Err(Failure::said(
-            format!("{}: cannot be read: {wrong}", shown(path)),
+            format!("{}: cannot be read: {}", shown(path), told(&wrong)),
             "give the path of a file that is there and that you may read",
         )),
     }

@@ -7,8 +7,9 @@ use crate::story::Done;
 use crate::trace::Step;
 use crate::words::Words;
 
-/// The number of something, and its word if it has one.
-fn labelled(number: usize, word: Option<&String>) -> Json {
+/// The number of something, and its word if a table gives it one.
+fn labelled(words: &Words, number: usize, word: Option<&String>) -> Json {
+    let word = word.filter(|_| !words.plain);
     Json::Object(vec![
         ("number", number.into()),
         ("word", word.cloned().into()),
@@ -16,15 +17,15 @@ fn labelled(number: usize, word: Option<&String>) -> Json {
 }
 
 pub fn right(words: &Words, right: usize) -> Json {
-    labelled(right, words.rights.get(right))
+    labelled(words, right, words.rights.get(right))
 }
 
 pub fn name(words: &Words, name: usize) -> Json {
-    labelled(name, words.names.get(name).and_then(Option::as_ref))
+    labelled(words, name, words.names.get(name).and_then(Option::as_ref))
 }
 
 pub fn rule(words: &Words, rule: usize) -> Json {
-    labelled(rule, words.rules.get(rule).map(|words| &words.rule))
+    labelled(words, rule, words.rules.get(rule).map(|words| &words.rule))
 }
 
 pub fn cell(words: &Words, (subject, object): (usize, usize)) -> Json {

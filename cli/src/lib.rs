@@ -3,6 +3,7 @@
 
 pub mod arguments;
 pub mod commands;
+pub mod count;
 pub mod failure;
 pub mod grid;
 pub mod help;

@@ -2,7 +2,7 @@
 
 use crate::arguments::Arguments;
 use crate::commands::{Answer, Command, View, ALL};
-use crate::failure::Failure;
+use crate::failure::{told, Failure};
 use crate::help;
 use crate::json::Json;
 use crate::table::word::nearest;
@@ -77,6 +77,10 @@ fn tell(answer: &Answer, command: &'static str, json: bool) -> u8 {
     let printed = if json {
         let mut fields = envelope(command, status);
         fields.extend(answer.json.iter().cloned());
+        if !answer.failures.is_empty() {
+            let errors = answer.failures.iter().map(Failure::json);
+            fields.push(("errors", errors.collect()));
+        }
         print(format!("{}\n", Json::Object(fields)).as_bytes())
     } else {
         print(&answer.text)
@@ -85,6 +89,7 @@ fn tell(answer: &Answer, command: &'static str, json: bool) -> u8 {
 }
 
 fn envelope(command: &str, status: u8) -> Vec<(&'static str, Json)> {
+    let command = Some(command.to_string()).filter(|command| !command.is_empty());
     vec![
         ("tugcaphi", env!("CARGO_PKG_VERSION").into()),
         ("command", command.into()),
@@ -109,7 +114,8 @@ fn print(bytes: &[u8]) -> u8 {
     match out.write_all(bytes).and_then(|()| out.flush()) {
         Err(wrong) if wrong.kind() != ErrorKind::BrokenPipe => {
             complain(&format!(
-                "error: standard output cannot be written: {wrong}\n"
+                "error: standard output cannot be written: {}\n",
+                told(&wrong)
             ));
             FAILED
         }

@@ -1,6 +1,7 @@
 //! Why a rule run was refused: which actual, condition or step. The number is the proved library's; the reason is found
 //! beside it and is left out where it belongs to another number.
 
+use crate::count::count;
 use crate::house::{Condition, House, Matrix, Rule};
 use crate::limits::{NAMES, UNUSED};
 use crate::machine::{perform, reachable, Why};
@@ -149,13 +150,5 @@ fn because(why: Why, words: &Words) -> String {
         Why::There(name) => format!("{} exists already", words.name(name)),
         Why::Subject(name) => format!("{} is a subject", words.name(name)),
         Why::Lacks => "the right is not there".to_string(),
-    }
-}
-
-/// `1 step`, `2 steps`.
-pub fn count(number: usize, noun: &str) -> String {
-    match number {
-        1 => format!("1 {noun}"),
-        n => format!("{n} {noun}s"),
     }
 }

@@ -51,6 +51,7 @@ impl BadFile {
     pub fn json(&self) -> Vec<(&'static str, Json)> {
         let mut fields = fields(self.refusal);
         fields.push(("place", self.place.as_ref().map_or(Json::Null, place_json)));
+        fields.push(("hint", self.hint.clone().into()));
         fields
     }
 }

@@ -1,11 +1,11 @@
 //! Steps in words: what each one enters or creates. The steps are carried out by the proved library.
 
+use crate::count::count;
 use crate::house::decode::decode;
 use crate::house::{House, Kind, Matrix};
 use crate::library;
 use crate::limits::NAMES;
 use crate::machine::{perform, Act, Held};
-use crate::reasons::count;
 use crate::trace::Step;
 use crate::words::Words;
 
@@ -115,7 +115,11 @@ pub fn clause(words: &Words, act: &Act) -> String {
             format!("deletes {right} from {cell}{already}")
         }
         Act::Create { name, kind } => {
-            format!("creates the {} {}", kind_of(kind), words.name(*name))
+            let new = match words.names[*name] {
+                Some(_) => "",
+                None => ", a new name",
+            };
+            format!("creates the {} {}{new}", kind_of(kind), words.name(*name))
         }
         Act::Destroy { name, kind, lost } => {
             let with = match lost.len() {

@@ -3,12 +3,12 @@
 pub mod json;
 pub mod text;
 
+use crate::count::count;
 use crate::failure::Failure;
 use crate::house::House;
 use crate::library::{self, Judgement};
 use crate::limits::{BUFFER_BYTES, JUDGED_NAMES, STEP_BYTES};
 use crate::machine::Held;
-use crate::reasons::count;
 use crate::story::{carry_out, leak, Done};
 use crate::trace::steps;
 use crate::words::Words;

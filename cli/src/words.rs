@@ -1,5 +1,6 @@
 //! The words for rights, names and rules, and how they are written.
 
+use crate::count::one_of;
 use crate::failure::Failure;
 use crate::house::House;
 use crate::limits::NAMES;
@@ -15,6 +16,8 @@ pub struct RuleWords {
 /// The words of a table. Every right and rule has one; a name may have none.
 #[derive(Clone, Debug, PartialEq, Eq)]
 pub struct Words {
+    /// Whether they are made up for a file that comes without a table.
+    pub plain: bool,
     pub rights: Vec<String>,
     pub names: [Option<String>; NAMES],
     pub rules: Vec<RuleWords>,
@@ -28,6 +31,7 @@ impl Words {
             blanks: ('a'..).take(rule.blanks).map(String::from).collect(),
         };
         Words {
+            plain: true,
             rights: (0..house.rights).map(|n| format!("r{n}")).collect(),
             names: std::array::from_fn(|n| Some(format!("n{n}"))),
             rules: house.rules.iter().enumerate().map(rule).collect(),
@@ -56,83 +60,44 @@ impl Words {
     }
 }
 
-/// What a word of the command line is looked for among: a number, or one of these words.
-struct Known<'a> {
-    noun: &'static str,
-    words: Vec<(usize, &'a str)>,
-}
-
 impl Words {
     /// The number of a right that is given by word or number. Whether there is one of that number, the library says.
     pub fn right_number(&self, given: &OsStr) -> Result<u8, Failure> {
         let words = self.rights.iter().map(String::as_str).enumerate();
-        let noun = "right";
-        find(
-            given,
-            &Known {
-                noun,
-                words: words.collect(),
-            },
-        )
+        self.find(given, "right", words.collect())
     }
 
     pub fn rule_number(&self, given: &OsStr) -> Result<u8, Failure> {
-        let words = self.rules.iter().map(|rule| rule.rule.as_str()).enumerate();
-        let noun = "rule";
-        find(
-            given,
-            &Known {
-                noun,
-                words: words.collect(),
-            },
-        )
+        let words = self.rules.iter().map(|rule| rule.rule.as_str());
+        self.find(given, "rule", words.enumerate().collect())
     }
 
     pub fn name_number(&self, given: &OsStr) -> Result<u8, Failure> {
         let words = self.names.iter().enumerate();
         let words = words.filter_map(|(number, word)| Some((number, word.as_deref()?)));
-        let noun = "name";
-        find(
-            given,
-            &Known {
-                noun,
-                words: words.collect(),
-            },
-        )
+        self.find(given, "name", words.collect())
     }
-}
 
-/// No word of digits has another number than it spells, so a number is never taken for a word.
-fn find(given: &OsStr, known: &Known) -> Result<u8, Failure> {
-    let text = given.to_string_lossy();
-    if word::digits(&text).is_some() {
-        return text.parse().map_err(|_| {
-            let message = format!("{text} is no number of a {}", known.noun);
-            Failure::said(message, "give a number from 0 to 255, or a word")
-        });
+    /// No word of digits has another number than it spells, so a number is never taken for a word.
+    fn find(&self, given: &OsStr, noun: &str, words: Vec<(usize, &str)>) -> Result<u8, Failure> {
+        let text = given.to_string_lossy();
+        if word::digits(&text).is_some() {
+            return text.parse().map_err(|_| {
+                let message = format!("{text} is no number of a {noun}");
+                Failure::said(message, "give a number from 0 to 255, or a word")
+            });
+        }
+        if let Some((number, _)) = words.iter().find(|(_, word)| *word == text) {
+            return Ok(u8::try_from(*number).expect("numbers are below 32"));
+        }
+        let near = word::nearest(&text, words.iter().map(|(_, word)| *word));
+        let all: Vec<String> = words.iter().map(|(_, text)| word::written(text)).collect();
+        let advice = match near {
+            _ if self.plain => "a house file has no words: give a number, or --names TABLE".into(),
+            Some(near) => format!("did you mean {}?", word::written(near)),
+            None if all.is_empty() => "there are none; give a number".to_string(),
+            None => format!("give {}, or a number", one_of(&all)),
+        };
+        Err(Failure::said(format!("there is no {noun} {text}"), advice))
     }
-    if let Some((number, _)) = known.words.iter().find(|(_, word)| *word == text) {
-        return Ok(u8::try_from(*number).expect("numbers are below 32"));
-    }
-    let all: Vec<&str> = known.words.iter().map(|(_, word)| *word).collect();
-    let near = word::nearest(&text, all.iter().copied());
-    let advice = match near {
-        Some(near) => format!("did you mean {}?", word::written(near)),
-        None => format!("give one of {}, or a number", shortened(&all)),
-    };
-    Err(Failure::said(
-        format!("there is no {} {text}", known.noun),
-        advice,
-    ))
-}
-
-/// The first few of many words.
-fn shortened(words: &[&str]) -> String {
-    let few: Vec<String> = words
-        .iter()
-        .take(8)
-        .map(|text| word::written(text))
-        .collect();
-    let more = if words.len() > few.len() { ", .." } else { "" };
-    format!("{}{more}", few.join(", "))
 }

@@ -135,10 +135,6 @@ fn write(path: &OsStr, content: &[u8], force: bool) -> Result<Vec<String>, Failu
         ));
     }
     let mut notes = replace::create(Path::new(path), force, true, content)?;
-    notes.push(format!(
-        "wrote {} ({} bytes)",
-        input::shown(path),
-        content.len()
-    ));
+    notes.push(format!("wrote {}", input::shown(path)));
     Ok(notes)
 }

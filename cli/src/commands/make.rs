@@ -2,10 +2,9 @@
 
 use super::{Answer, Command, View, FORCE, GOOD, NO_WAIT, REFUSED};
 use crate::arguments::{Arguments, Choice};
+use crate::count::count;
 use crate::failure::Failure;
 use crate::input;
-use crate::json::Json;
-use crate::reasons::count;
 use crate::refused::BadFile;
 use crate::replace;
 use crate::table::Table;
@@ -46,7 +45,7 @@ fn run(arguments: &Arguments, view: &View) -> Result<Answer, Failure> {
         return Ok(refused(&file, refusal, path, view));
     }
     if output == "-" {
-        return to_standard_output(file, view);
+        return to_standard_output(file, arguments.has("--json"), view);
     }
     let force = arguments.has("--force");
     let wait = !arguments.has("--no-wait");
@@ -83,25 +82,16 @@ fn told(table: &Table, bytes: usize, output: &OsStr) -> Answer {
     }
 }
 
-fn to_standard_output(file: Vec<u8>, view: &View) -> Result<Answer, Failure> {
-    if view.columns.is_some() {
-        let advice = "write the file with -o FILE, or send the output to another program";
-        return Err(Failure::said(
-            "make: a house file is not for a terminal",
-            advice,
-        ));
+fn to_standard_output(file: Vec<u8>, json: bool, view: &View) -> Result<Answer, Failure> {
+    if json || view.columns.is_some() {
+        let message = match json {
+            true => "make: --json takes standard output too",
+            false => "make: a house file is not for a terminal",
+        };
+        return Err(Failure::said(message, "write the file with -o FILE"));
     }
     Ok(Answer {
         status: GOOD,
-        json: vec![
-            ("answer", "made".into()),
-            (
-                "content",
-                file.iter()
-                    .map(|&byte| Json::from(usize::from(byte)))
-                    .collect(),
-            ),
-        ],
         text: file,
         ..Answer::default()
     })

@@ -2,11 +2,13 @@
 
 use super::{Answer, Command, View, GOOD, LEAK, NAMES, REFUSED};
 use crate::arguments::Arguments;
+use crate::count::count;
 use crate::failure::Failure;
 use crate::input::{self, Content};
 use crate::json::Json;
 use crate::library::{self, Replay};
-use crate::reasons::{self, count};
+use crate::limits::STEP_BYTES;
+use crate::reasons;
 use crate::story::{self, carry_out, leak, Done};
 use crate::terminal::{padded, width, Style};
 use crate::trace::{self, Step};
@@ -73,7 +75,7 @@ fn status((_, replay): &(u8, Replay)) -> u8 {
 /// The steps of a trace as far as they can be done, and why the next one cannot.
 struct Told<'a> {
     words: &'a Words,
-    steps: usize,
+    bytes: usize,
     done: Vec<Done>,
     stopped: Option<(Step, u8, Option<String>)>,
 }
@@ -85,10 +87,13 @@ impl Told<'_> {
         let mut house = content.house.clone();
         let mut told = Told {
             words,
-            steps: trace.len() / crate::limits::STEP_BYTES,
+            bytes: trace.len(),
             done: Vec::new(),
             stopped: None,
         };
+        if !trace.len().is_multiple_of(STEP_BYTES) {
+            return told;
+        }
         for step in trace::steps(trace) {
             match carry_out(&mut file, step) {
                 Ok(done) => {
@@ -106,7 +111,13 @@ impl Told<'_> {
     }
 
     fn text(&self, replays: &[(u8, Replay)], style: Style) -> String {
-        let mut text = format!("{}\n", count(self.steps, "step"));
+        let mut text = match self.bytes % STEP_BYTES {
+            0 => format!("{}\n", count(self.bytes / STEP_BYTES, "step")),
+            _ => format!(
+                "{}, which is no whole number of steps\n",
+                count(self.bytes, "byte")
+            ),
+        };
         for line in text::steps(self.words, &self.done) {
             text += &format!("  {line}\n");
         }

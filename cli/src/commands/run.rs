@@ -127,14 +127,12 @@ fn try_on(file: &[u8], arguments: &Arguments) -> Result<(Option<Edit>, Came), Fa
 
 /// The rule run that the words say. Whether the names are as many as the rule's blanks, the library says.
 fn step(given: &[OsString], words: &Words) -> Result<Step, Failure> {
+    let rule = words.rule_number(&given[0])?;
     let mut actuals = [UNUSED; BLANKS];
     for (actual, name) in actuals.iter_mut().zip(&given[1..]) {
         *actual = words.name_number(name)?;
     }
-    Ok(Step {
-        rule: words.rule_number(&given[0])?,
-        actuals,
-    })
+    Ok(Step { rule, actuals })
 }
 
 fn told(came: Came, arguments: &Arguments, view: &View) -> Answer {

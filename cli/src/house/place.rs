@@ -2,6 +2,7 @@
 //! is the proved reader's; a place is told only where this walk comes to the same number.
 
 use super::sections::number;
+use crate::count::count;
 use crate::limits::{
     BLANKS, CELLS_BYTES, CELL_BYTES, CONDITIONS, CONDITION_BYTES, FILE_BYTES, FIXED_SECTIONS,
     HEADER_BYTES, NAMES, OPERATION_BYTES, PAIR_BYTES, RIGHTS, RULES, RULE_HEAD_BYTES, STEPS,
@@ -54,8 +55,8 @@ fn fault(
     refusal: u8,
     section: &str,
     offset: usize,
-    found: impl ToString,
-    allowed: impl ToString,
+    found: impl Into<String>,
+    allowed: impl Into<String>,
 ) -> Fault {
     Fault {
         refusal,
@@ -63,8 +64,8 @@ fn fault(
             section: section.to_string(),
             rule: None,
             offset,
-            found: found.to_string(),
-            allowed: allowed.to_string(),
+            found: found.into(),
+            allowed: allowed.into(),
         },
     }
 }
@@ -72,7 +73,7 @@ fn fault(
 fn header(file: &[u8]) -> Result<(), Fault> {
     let length = file.len();
     if length < HEADER_BYTES {
-        let found = format!("the end of the file, after {length} bytes");
+        let found = format!("the end of the file, after {}", count(length, "byte"));
         let allowed = format!("a file of {HEADER_BYTES} to {FILE_BYTES} bytes");
         return Err(fault(1, "header", length, found, allowed));
     }
@@ -83,16 +84,17 @@ fn header(file: &[u8]) -> Result<(), Fault> {
     }
     let most = FIXED_SECTIONS + RULES;
     if !(1..=RIGHTS).contains(&usize::from(file[0])) {
-        let allowed = format!("the number of rights, 1 to {RIGHTS}");
-        return Err(fault(2, "header", 0, file[0], allowed));
+        let found = format!("{} as the number of rights", file[0]);
+        return Err(fault(2, "header", 0, found, format!("1 to {RIGHTS}")));
     }
     if !(FIXED_SECTIONS..=most).contains(&usize::from(file[1])) {
-        let allowed = format!("the number of pairs, {FIXED_SECTIONS} to {most}");
-        return Err(fault(3, "header", 1, file[1], allowed));
+        let found = format!("{} as the number of pairs", file[1]);
+        let allowed = format!("{FIXED_SECTIONS} to {most}");
+        return Err(fault(3, "header", 1, found, allowed));
     }
     let needed = HEADER_BYTES + PAIR_BYTES * usize::from(file[1]);
     if length < needed {
-        let found = format!("the end of the file, after {length} bytes");
+        let found = format!("the end of the file, after {}", count(length, "byte"));
         let allowed = format!("{needed} bytes or more, for {} pairs", file[1]);
         return Err(fault(1, "pairs", length, found, allowed));
     }
@@ -249,8 +251,9 @@ impl Rule<'_> {
         let wanted = RULE_HEAD_BYTES + tests + OPERATION_BYTES * usize::from(bytes[2]);
         if bytes.len() != wanted {
             let allowed = format!(
-                "length {wanted}, for {} conditions and {} steps",
-                bytes[1], bytes[2]
+                "length {wanted}, for {} and {}",
+                count(usize::from(bytes[1]), "condition"),
+                count(usize::from(bytes[2]), "step")
             );
             return Err(self.length_fault(allowed));
         }

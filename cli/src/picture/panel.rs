@@ -4,6 +4,7 @@ use super::canvas::{measure, Canvas};
 use super::layout::{DISC, LINE, PAD};
 use super::matrix::{matrix, Aim};
 use crate::input::Content;
+use crate::machine::Act;
 use crate::story;
 use crate::verdict::{text, Leak, Ruling, Verdict};
 
@@ -60,9 +61,8 @@ fn list(canvas: &mut Canvas, content: &Content, leak: &Leak) {
     let words = &content.words;
     canvas.height += PAD / 2;
     for (i, done) in leak.steps.iter().take(MOST_LISTED).enumerate() {
-        let last = i + 1 == leak.steps.len();
         let y = canvas.height + 8;
-        canvas.count(PAD + 10, y - 4, if last { "dot-bad" } else { "dot" }, i + 1);
+        canvas.count(PAD + 10, y - 4, disc(leak, i), i + 1);
         let call = story::call(words, done.step);
         let sentence = story::sentence(words, &done.acts);
         canvas.texts(PAD + DISC + 4, y, &[("name", &call), ("", &sentence)]);
@@ -77,6 +77,16 @@ fn list(canvas: &mut Canvas, content: &Content, leak: &Leak) {
         );
     }
     canvas.say("bad", &text::outcome(words, leak));
+}
+
+/// The disc of a step in the list: as in the matrix.
+fn disc(leak: &Leak, step: usize) -> &'static str {
+    let deletes = |act: &Act| matches!(act, Act::Delete { .. });
+    match leak.steps[step].acts.iter().all(deletes) {
+        _ if step + 1 == leak.steps.len() => "dot-bad",
+        true => "dot-gone",
+        false => "dot",
+    }
 }
 
 impl Canvas {

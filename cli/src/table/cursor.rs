@@ -40,7 +40,7 @@ impl<'a> Cursor<'a> {
     /// How a lexeme stands in the text, for messages.
     fn text(&self, lexeme: &Lexeme) -> String {
         match lexeme.token {
-            Token::End => "the end of the line".to_string(),
+            Token::End => "the end".to_string(),
             _ => format!("`{}`", self.source.slice(lexeme.span)),
         }
     }
@@ -63,16 +63,21 @@ impl<'a> Cursor<'a> {
                 .hint(format!("as a word of yours it stands in quotes: \"{own}\""))),
             Token::Number(_) | Token::Odd => Err(Flaw::new(Code::NoWord, lexeme.span)
                 .found(format!("{found} is no word"))
-                .expected(format!("{what}: a word begins with a letter or stands in quotes"))
-                .hint("numbers go by the order of listing; to set one, write Ada = 5; a range is press1..press4")),
+                .expected(format!(
+                    "{what}: a word begins with a letter or stands in quotes"
+                ))),
             _ => Err(self.unexpected(&lexeme, what)),
         }
     }
 
     /// The mistake that something else stands where `expected` should.
     pub fn unexpected(&self, lexeme: &Lexeme, expected: &str) -> Flaw {
+        let found = match lexeme.token {
+            Token::End => "the line ends too soon".to_string(),
+            _ => format!("{} does not belong here", self.text(lexeme)),
+        };
         Flaw::new(Code::Syntax, lexeme.span)
-            .found(format!("{} here", self.text(lexeme)))
+            .found(found)
             .expected(expected)
     }
 

@@ -204,8 +204,11 @@ impl<'a> Lexer<'a> {
             '[' | ']' | '{' | '}' => "cells and blanks stand in ( )",
             _ => "a word with other characters stands in quotes",
         };
-        self.here(character.len_utf8(), format!("`{character}`"))
-            .expected("a word, a number or one of ( ) , : ; = ..")
-            .hint(hint)
+        self.here(
+            character.len_utf8(),
+            format!("`{character}` does not belong here"),
+        )
+        .expected("a word, a number or one of ( ) , : ; = ..")
+        .hint(hint)
     }
 }

@@ -70,6 +70,7 @@ pub fn resolve(statements: &[Statement]) -> Result<(House, Words), Flaw> {
         rules,
     };
     let words = Words {
+        plain: false,
         rights: right_words.into_values().collect(),
         names: name_words,
         rules: rule_words,
@@ -150,7 +151,6 @@ fn cell_twice(subject: &Word, object: &Word) -> Flaw {
             subject.text, object.text
         ))
         .expected("each cell once")
-        .hint("put all rights of a cell into one line")
 }
 
 fn rule(registry: &mut Registry, syntax: &RuleSyntax) -> Result<(Rule, RuleWords), Flaw> {

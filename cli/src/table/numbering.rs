@@ -69,8 +69,12 @@ fn within(number: usize, item: &Item, kind: &Numbered) -> Result<(), Flaw> {
         return Ok(());
     }
     let span = item.number.map_or(item.word.span, |(_, span)| span);
+    let found = match number {
+        usize::MAX => "a number far too large".to_string(),
+        _ => format!("{} {number}", kind.what),
+    };
     Err(Flaw::new(Code::Number, span)
-        .found(format!("{} number {number}", kind.what))
+        .found(found)
         .expected(format!("a number from 0 to {}", kind.limit - 1)))
 }
 
@@ -91,8 +95,7 @@ fn spelled(number: usize, item: &Item, kind: &Numbered) -> Result<(), Flaw> {
     }
     Err(Flaw::new(Code::DigitWord, item.word.span)
         .found(format!("\"{text}\" would be {} {number}", kind.what))
-        .expected("a word that nobody takes for a number")
-        .hint("put a letter before it; only a name may be called by its own number"))
+        .expected("a word that nobody takes for a number"))
 }
 
 fn without_gap(taken: &BTreeMap<usize, &Item>, kind: &Numbered) -> Result<(), Flaw> {

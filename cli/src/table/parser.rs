@@ -5,7 +5,7 @@ use super::lexer::Token;
 use super::lists;
 use super::mistake::{Code, Flaw};
 use super::rules;
-use super::source::{Source, Span};
+use super::source::{first_line as first_line_flaw, Source, Span};
 use super::syntax::Statement;
 use super::word::nearest;
 
@@ -35,7 +35,8 @@ pub fn parse(source: &Source) -> Result<Vec<Statement>, Flaw> {
         let begins = begin(source, lines)?;
         in_order(part, begins, statements.is_empty(), lines[0])?;
         part = begins.1;
-        statements.push(statement(source, lines, begins.0)?);
+        let read = statement(source, lines, begins.0);
+        statements.push(read.map_err(|flaw| flaw.form(form(begins.0)))?);
     }
     if statements.is_empty() {
         let end = source.text.len();
@@ -49,18 +50,9 @@ pub fn parse(source: &Source) -> Result<Vec<Statement>, Flaw> {
 /// The first line is `table 1`.
 fn first_line(source: &Source) -> Result<(), Flaw> {
     let line = source.lines()[0];
-    let wrong = |span| {
-        Flaw::new(Code::FirstLine, span)
-            .found("the first line does not say that this is a table")
-            .expected(format!("`table {VERSION}` as the first line"))
-            .hint("nothing, not even a comment or a space, stands before it")
-    };
-    if !source.line(1).starts_with("table") {
-        return Err(wrong(line));
-    }
     let mut cursor = Cursor::new(source, &[line]);
     if cursor.take()?.token != Token::Own("table") {
-        return Err(wrong(line));
+        return Err(first_line_flaw(line));
     }
     let (version, span) = cursor.number()?;
     if version != VERSION {
@@ -125,9 +117,7 @@ fn in_order(part: Part, begins: (&str, Part), first: bool, line: Span) -> Result
     let span = Span::new(line.start, line.start + word.len());
     let wrong = |expected: &str| {
         let flaw = Flaw::new(Code::Order, span).found(format!("`{word}` out of order"));
-        Err(flaw
-            .expected(expected)
-            .hint("a table has first its rights, then its names, then cells and rules"))
+        Err(flaw.expected(expected))
     };
     match here {
         _ if first && here != Part::Rights => wrong("`rights` as the first statement"),
@@ -149,6 +139,20 @@ fn statement(source: &Source, lines: &[Span], word: &str) -> Result<Statement, F
     };
     end(&mut cursor)?;
     Ok(statement)
+}
+
+/// How each statement is written.
+fn form(word: &str) -> &'static str {
+    match word {
+        "rights" | "subjects" | "objects" => {
+            "a list is words with spaces between them: rights own read"
+        }
+        "cell" => "a cell is written so: cell (Ada, vermilion): own read",
+        _ => {
+            "a rule is written so: rule lend (a, b, f): if own in (a, f) enter read into (b, f); a line that goes on \
+             with it begins with a space"
+        }
+    }
 }
 
 fn cell(cursor: &mut Cursor) -> Result<Statement, Flaw> {

@@ -2,7 +2,8 @@
 
 use super::mistake::{Code, Flaw};
 use super::source::Span;
-use super::word::{nearest, Word};
+use super::word::{nearest, written, Word};
+use crate::count::one_of;
 use std::collections::BTreeMap;
 
 #[derive(Clone, Copy, Debug, PartialEq, Eq, PartialOrd, Ord)]
@@ -85,8 +86,8 @@ impl Registry {
     }
 
     fn wrong(&self, code: Code, word: &Word, sort: Sort) -> Flaw {
-        let known = one_of(self.of(sort));
-        Flaw::new(code, word.span).expected(format!("a {}: {known}", sort.noun()))
+        let noun = format!("a {}", sort.noun());
+        Flaw::new(code, word.span).expected(expected(&noun, &self.of(sort)))
     }
 
     /// The words of a sort in the order of their numbers.
@@ -115,8 +116,7 @@ impl Registry {
                         blank.text
                     ))
                     .expected("a blank with a word of its own")
-                    .earlier(entry.span, "it is listed there")
-                    .hint("a rule speaks of blanks alone; who fills them is chosen at each run"));
+                    .earlier(entry.span, "it is listed there"));
             }
             self.blanks.push(blank.clone());
         }
@@ -129,10 +129,10 @@ impl Registry {
         if let Some(place) = place {
             return Ok(place);
         }
-        let known = one_of(self.blanks.iter().map(|b| b.text.as_str()).collect());
+        let known: Vec<&str> = self.blanks.iter().map(|b| b.text.as_str()).collect();
         let flaw = Flaw::new(Code::Unknown, word.span)
             .found(format!("the rule has no blank `{}`", word.text))
-            .expected(format!("a blank of the rule: {known}"));
+            .expected(expected("a blank of the rule", &known));
         match self.words.get(&word.text) {
             Some(entry) => Err(flaw
                 .earlier(
@@ -145,12 +145,11 @@ impl Registry {
     }
 }
 
-/// `a, b or c`; of many only how many there are.
-fn one_of(words: Vec<&str>) -> String {
-    match words.as_slice() {
-        [] => "there is none".to_string(),
-        [one] => one.to_string(),
-        [most @ .., last] if most.len() < 12 => format!("{} or {last}", most.join(", ")),
-        all => format!("one of the {} listed", all.len()),
+/// What is expected: `a right: own or read`.
+fn expected(noun: &str, words: &[&str]) -> String {
+    let words: Vec<String> = words.iter().map(|word| written(word)).collect();
+    match words.is_empty() {
+        true => format!("{noun}, and there is none"),
+        false => format!("{noun}: {}", one_of(&words)),
     }
 }

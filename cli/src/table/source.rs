@@ -1,6 +1,8 @@
 //! The text of a table: UTF-8, its lines, and places in it.
 
 use super::mistake::{Code, Flaw, Mistake};
+use super::parser::VERSION;
+use crate::limits::RIGHTS;
 
 pub const BYTE_ORDER_MARK: &[u8] = b"\xEF\xBB\xBF";
 
@@ -35,6 +37,9 @@ impl Source {
     /// The text of these bytes, without a byte order mark.
     pub fn new(bytes: &[u8]) -> Result<Source, Box<Mistake>> {
         let bytes = bytes.strip_prefix(BYTE_ORDER_MARK).unwrap_or(bytes);
+        if !bytes.starts_with(b"table") && !is_utf16(bytes) {
+            return Err(Box::new(no_table(bytes)));
+        }
         if bytes.len() > MOST_BYTES {
             let source = Source::of("");
             return Err(Box::new(too_long(bytes.len()).placed(&source)));
@@ -103,23 +108,44 @@ fn lines(text: &str) -> Vec<Span> {
     lines
 }
 
+fn is_utf16(bytes: &[u8]) -> bool {
+    bytes.starts_with(b"\xFF\xFE") || bytes.starts_with(b"\xFE\xFF")
+}
+
+/// The first line is what tells a table from a house file or any other.
+fn no_table(bytes: &[u8]) -> Mistake {
+    let start = String::from_utf8_lossy(&bytes[..bytes.len().min(60)]);
+    let source = Source::of(&start);
+    let flaw = first_line(source.lines[0]);
+    let is_house = (1..=RIGHTS).contains(&bytes.first().map_or(0, |&byte| usize::from(byte)));
+    match is_house {
+        true => flaw.hint("this may be a house file: tugcaphi show prints it as a table"),
+        false => flaw,
+    }
+    .placed(&source)
+}
+
+/// The mistake that the first line is another than it must be.
+pub fn first_line(line: Span) -> Flaw {
+    Flaw::new(Code::FirstLine, line)
+        .found("the first line does not say that this is a table")
+        .expected(format!("`table {VERSION}` as the first line"))
+}
+
 fn too_long(bytes: usize) -> Flaw {
     Flaw::new(Code::TooLong, Span::new(0, 0))
         .found(format!("the text has {bytes} bytes"))
         .expected(format!("at most {MOST_BYTES} bytes"))
-        .hint("is this a table?")
 }
 
 fn not_utf8(bytes: &[u8], at: usize) -> Flaw {
-    let hint = if bytes.starts_with(b"\xFF\xFE") || bytes.starts_with(b"\xFE\xFF") {
-        "this is UTF-16: save the table as UTF-8"
-    } else {
-        "save the table as UTF-8 in your editor"
-    };
-    Flaw::new(Code::NotUtf8, Span::new(at, at))
+    let flaw = Flaw::new(Code::NotUtf8, Span::new(at, at))
         .found(format!("byte {} is no UTF-8 text", bytes[at]))
-        .expected("text in UTF-8")
-        .hint(hint)
+        .expected("text in UTF-8");
+    match is_utf16(bytes) {
+        true => flaw.hint("this is UTF-16: save the table as UTF-8"),
+        false => flaw,
+    }
 }
 
 /// The first character that nobody can see, and that could make a line read otherwise than it is.
@@ -129,12 +155,11 @@ fn unseen(text: &str) -> Option<Flaw> {
     let code = u32::from(character);
     let flaw = Flaw::new(Code::Unseen, span)
         .found(format!("the character U+{code:04X} cannot be seen"))
-        .expected("characters that can be seen, spaces, tabs and line ends")
-        .hint("delete it, or type the line again");
+        .expected("characters that can be seen, spaces, tabs and line ends");
     Some(flaw)
 }
 
-fn is_unseen(character: char) -> bool {
+pub fn is_unseen(character: char) -> bool {
     match character {
         '\t' | '\n' | '\r' => false,
         // Blanks of other widths, joiners, marks of direction, line and paragraph separators.

@@ -76,7 +76,6 @@ pub fn loose_accent(span: Span) -> Flaw {
     Flaw::new(Code::Accent, span)
         .found("an accent that is a character of its own")
         .expected("letter and accent as one character")
-        .hint("type the letter again; two spellings of one word would look the same")
 }
 
 /// Whether a text is a word without quotes.
@@ -112,7 +111,10 @@ pub fn nearest<'a>(text: &str, words: impl IntoIterator<Item = &'a str>) -> Opti
     let far = 1 + text.chars().count() / 4;
     let measured = words.into_iter().map(|word| (distance(text, word), word));
     let (least, word) = measured.min_by_key(|&(distance, _)| distance)?;
-    (least <= far && least < text.chars().count()).then_some(word)
+    let letters = |text: &str| text.replace(|c: char| c.is_ascii_digit(), "");
+    // Another number is no slip of the pen that could be guessed.
+    let numbered = letters(text) == letters(word);
+    (least <= far && least < text.chars().count() && !numbered).then_some(word)
 }
 
 /// How many characters must be put in, left out, changed or swapped with the next one.

@@ -64,7 +64,7 @@ fn names(house: &House, words: &Words) -> Vec<String> {
 
 /// A word whose name is not there at the moment is kept as a comment.
 fn absent(house: &House, words: &Words) -> Vec<String> {
-    if *words == Words::plain(house) {
+    if words.plain {
         return Vec::new();
     }
     let gone = |&number: &usize| house.matrix.kinds[number] == Kind::Absent;

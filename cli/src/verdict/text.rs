@@ -1,8 +1,8 @@
 //! Verdicts for people.
 
 use super::{obstacle, Leak, Ruling, Verdict};
+use crate::count::count;
 use crate::input::Content;
-use crate::reasons::count;
 use crate::refusals;
 use crate::story::{self, Done};
 use crate::terminal::{padded, width, Style};
@@ -42,7 +42,7 @@ pub fn lines(content: &Content, verdicts: &[Verdict], style: Style) -> String {
 pub fn summary(content: &Content, verdict: &Verdict) -> String {
     match &verdict.ruling {
         Ruling::Safe(cells) => format!(
-            "{} already; no run of the rules enters it into a cell that lacks it",
+            "{}; no run of the rules enters it into a cell that lacks it",
             holders(cells.len())
         ),
         Ruling::Unsafe(leak) => {
@@ -60,9 +60,9 @@ pub fn summary(content: &Content, verdict: &Verdict) -> String {
 
 fn holders(cells: usize) -> String {
     match cells {
-        0 => "no cell holds it".to_string(),
-        1 => "1 cell holds it".to_string(),
-        n => format!("{n} cells hold it"),
+        0 => "no cell holds it yet".to_string(),
+        1 => "1 cell holds it already".to_string(),
+        n => format!("{n} cells hold it already"),
     }
 }
 

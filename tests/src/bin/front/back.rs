@@ -18,7 +18,7 @@ pub fn run(report: &mut Report, seed: u64) {
         "an accepted file with another byte says something else",
         20_000,
         |group| {
-            for _ in 0..60 {
+            for _ in 0..30 {
                 let (table, file) = a_table(&mut random);
                 group.demand(differences(&table.statements, &file).is_empty(), || {
                     "a file that is the table's own is said to differ".into()

@@ -113,7 +113,7 @@ fn answers(report: &mut Report, shown: &Shown) {
             });
         }
     });
-    report.group("every sort of answer for programs", 20, |group| {
+    report.group("every sort of answer for programs", 19, |group| {
         for (command, sorts) in ANSWERS {
             let seen: Vec<String> = answers
                 .iter()

@@ -69,6 +69,7 @@ pub fn single(random: &mut Random, mut draft: impl FnMut(&mut Random) -> Draft) 
 fn words_of(wording: &Wording) -> Words {
     let rules = wording.rules.iter().zip(&wording.blanks);
     Words {
+        plain: false,
         rights: wording.rights.clone(),
         // Every third name has no word, and is told by its number.
         names: std::array::from_fn(|i| Some(wording.names[i].clone()).filter(|_| i % 3 != 2)),
@@ -288,7 +289,7 @@ fn holding(line: &str, right: usize, file: &[u8]) -> Result<(), String> {
         .filter(|&&cell| cell >> right & 1 == 1)
         .count();
     let wanted = match count {
-        0 => "  no cell holds it already;".to_string(),
+        0 => "  no cell holds it yet;".to_string(),
         1 => "  1 cell holds it already;".to_string(),
         n => format!("  {n} cells hold it already;"),
     };

@@ -32,11 +32,11 @@ pub fn run(report: &mut Report, seed: u64, number: u64) {
 
 /// Mostly small ones: the reader's work grows with the cells.
 fn a_draft(random: &mut Random, i: u64) -> Draft {
-    match i % 50 {
+    match i % 100 {
         0 => longest(random),
         1..=4 => any(random),
-        5..=14 => turbulent(random),
-        15..=29 => lively(random),
+        5..=9 => turbulent(random),
+        10..=24 => lively(random),
         _ => small(random),
     }
 }
