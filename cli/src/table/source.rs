@@ -42,7 +42,7 @@ impl Source {
         }
         if bytes.len() > MOST_BYTES {
             let source = Source::of("");
-            return Err(Box::new(too_long(bytes.len()).placed(&source)));
+            return Err(Box::new(too_long().placed(&source)));
         }
         let source = match std::str::from_utf8(bytes) {
             Ok(text) => Source::of(text),
@@ -132,9 +132,9 @@ pub fn first_line(line: Span) -> Flaw {
         .expected(format!("`table {VERSION}` as the first line"))
 }
 
-fn too_long(bytes: usize) -> Flaw {
+fn too_long() -> Flaw {
     Flaw::new(Code::TooLong, Span::new(0, 0))
-        .found(format!("the text has {bytes} bytes"))
+        .found("a text far too long for a table")
         .expected(format!("at most {MOST_BYTES} bytes"))
 }
 

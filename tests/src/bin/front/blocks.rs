@@ -6,8 +6,7 @@ use super::execute::{Folder, Said};
 use reference::report::{Group, Report};
 use std::fs;
 
-const PAGES: [&str; 5] = [
-    "README.md",
+const PAGES: [&str; 4] = [
     "docs/USING.md",
     "docs/TABLES.md",
     "docs/JSON.md",
@@ -15,6 +14,7 @@ const PAGES: [&str; 5] = [
 ];
 
 pub fn run(report: &mut Report) {
+    report.group("the first verdict of README.md", 4, first_verdict);
     for page in PAGES {
         report.group(&format!("examples of {page}"), 1, |group| {
             let text = fs::read_to_string(format!("../{page}")).unwrap_or_default();
@@ -33,6 +33,24 @@ pub fn run(report: &mut Report) {
                     _ => {}
                 }
             }
+        });
+    }
+}
+
+/// README has the first lines of a verdict, which the program must print so.
+fn first_verdict(group: &mut Group) {
+    let folder = Folder::new("readme").with_examples();
+    let words = ["judge", "tables/vermilion.table"].map(String::from);
+    let said = folder.run(&words, None);
+    let printed = String::from_utf8_lossy(&said.out).into_owned();
+    let text = fs::read_to_string("../README.md").unwrap_or_default();
+    let block = text
+        .lines()
+        .skip_while(|line| !line.starts_with("    own "));
+    let block = block.take_while(|line| line.starts_with("    ") && *line != "    ..");
+    for (line, wanted) in block.zip(printed.lines()) {
+        group.input(&line[4..] == wanted, || {
+            format!("{line:?}, the program prints {wanted:?}")
         });
     }
 }
