@@ -8,7 +8,7 @@ use crate::picture;
 use crate::replace;
 use crate::report;
 use crate::verdict::{self, json, text, Ruling, Verdict};
-use std::ffi::OsStr;
+use std::ffi::{OsStr, OsString};
 use std::path::Path;
 
 pub const COMMAND: Command = Command {
@@ -51,17 +51,9 @@ fn run(arguments: &Arguments, view: &View) -> Result<Answer, Failure> {
         Ok(content) => content,
         Err(refusal) => return Ok(super::show::refused(&input, *refusal, view)),
     };
-    let given = &arguments.plain[1..];
-    let rights: Vec<u8> = match given {
-        [] => (0..content.house.rights as u8).collect(),
-        _ => given
-            .iter()
-            .map(|right| content.words.right_number(right))
-            .collect::<Result<_, _>>()?,
-    };
-    let verdicts: Vec<Verdict> = rights
-        .iter()
-        .map(|&right| verdict::judge(&input.file, &content.house, right))
+    let verdicts: Vec<Verdict> = asked(&arguments.plain[1..], content)?
+        .into_iter()
+        .map(|right| verdict::judge(&input.file, &content.house, right))
         .collect::<Result<_, _>>()?;
     let mut answer = Answer {
         status: verdicts.iter().map(status).max().unwrap_or(GOOD),
@@ -87,6 +79,19 @@ fn run(arguments: &Arguments, view: &View) -> Result<Answer, Failure> {
         }
     }
     Ok(answer)
+}
+
+/// The rights that are given, or every right.
+fn asked(given: &[OsString], content: &Content) -> Result<Vec<u8>, Failure> {
+    match given {
+        [] => Ok((0..content.house.rights as u8).collect()),
+        _ => {
+            let rights = given.iter();
+            rights
+                .map(|right| content.words.right_number(right))
+                .collect()
+        }
+    }
 }
 
 fn status(verdict: &Verdict) -> u8 {

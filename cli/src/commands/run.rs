@@ -143,8 +143,7 @@ fn told(came: Came, arguments: &Arguments, view: &View) -> Answer {
         Came::BadFile(bad) => {
             json.push(("answer", "refused".into()));
             json.extend(bad.json());
-            let text = bad.lines(&path, view.style);
-            answer(REFUSED, text, json)
+            answer(REFUSED, bad.lines(&path, view.style), json)
         }
         Came::Refused(words, step, refusal, reason) => {
             let mut text = refused::headline(refusal, view.style);
@@ -164,23 +163,21 @@ fn told(came: Came, arguments: &Arguments, view: &View) -> Answer {
             } else {
                 "DONE"
             };
-            let mut text = format!("{}\n", view.style.good(head));
-            text += &format!("  {}\n", story::call(&words, done.step));
-            for act in &done.acts {
-                text += &format!("  {}\n", story::clause(&words, act));
-            }
+            let text = format!("{}\n{}", view.style.good(head), told_acts(&words, &done));
+            let acts = done.acts.iter().map(|act| labels::act(&words, act));
             json.push(("answer", "done".into()));
             json.extend(labels::call(&words, done.step));
-            json.push((
-                "acts",
-                done.acts
-                    .iter()
-                    .map(|act| labels::act(&words, act))
-                    .collect(),
-            ));
+            json.push(("acts", acts.collect()));
             answer(GOOD, text, json)
         }
     }
+}
+
+/// The rule with its names, and what each of its operations did.
+fn told_acts(words: &Words, done: &Done) -> String {
+    let acts = done.acts.iter().map(|act| story::clause(words, act));
+    let lines = [story::call(words, done.step)].into_iter().chain(acts);
+    lines.map(|line| format!("  {line}\n")).collect()
 }
 
 fn answer(status: u8, text: String, json: Vec<(&'static str, Json)>) -> Answer {

@@ -66,51 +66,43 @@ fn text(content: &Content, view: &View) -> String {
 
 fn json(input: &Input, content: &Content) -> Vec<(&'static str, Json)> {
     let Content { house, words } = content;
-    let matrix = &house.matrix;
+    let rights = (0..house.rights).map(|right| labels::right(words, right));
+    let rules = (0..house.rules.len()).map(|rule| rule_json(content, rule));
     let name = |&name: &usize| {
         Json::Object(vec![
             ("name", labels::name(words, name)),
-            ("kind", labels::kind(matrix.kinds[name])),
+            ("kind", labels::kind(house.matrix.kinds[name])),
         ])
     };
+    vec![
+        ("input", input.json()),
+        ("answer", "shown".into()),
+        ("rights", rights.collect()),
+        ("names", house.matrix.names().iter().map(name).collect()),
+        ("cells", cells_json(content)),
+        ("rules", rules.collect()),
+        ("text", writer::write(house, words).into()),
+    ]
+}
+
+/// The cells that hold a right.
+fn cells_json(content: &Content) -> Json {
+    let Content { house, words } = content;
     let mut cells = Vec::new();
-    for subject in matrix.subjects() {
-        for object in matrix.names() {
-            let rights = matrix.cell(subject, object);
+    for subject in house.matrix.subjects() {
+        for object in house.matrix.names() {
+            let rights = house.matrix.cell(subject, object);
             if !rights.is_empty() {
+                let rights = rights.iter().map(|right| labels::right(words, right));
                 cells.push(Json::Object(vec![
                     ("subject", labels::name(words, subject)),
                     ("object", labels::name(words, object)),
-                    (
-                        "rights",
-                        rights
-                            .iter()
-                            .map(|right| labels::right(words, right))
-                            .collect(),
-                    ),
+                    ("rights", rights.collect()),
                 ]));
             }
         }
     }
-    vec![
-        ("input", input.json()),
-        ("answer", "shown".into()),
-        (
-            "rights",
-            (0..house.rights)
-                .map(|right| labels::right(words, right))
-                .collect(),
-        ),
-        ("names", matrix.names().iter().map(name).collect()),
-        ("cells", Json::List(cells)),
-        (
-            "rules",
-            (0..house.rules.len())
-                .map(|rule| rule_json(content, rule))
-                .collect(),
-        ),
-        ("text", writer::write(house, words).into()),
-    ]
+    Json::List(cells)
 }
 
 fn rule_json(content: &Content, number: usize) -> Json {

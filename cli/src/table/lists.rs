@@ -75,45 +75,35 @@ pub fn words(cursor: &mut Cursor, what: &str) -> Result<Vec<Word>, Flaw> {
 /// The words from one to another: the same letters, and numbers that go up.
 fn range(first: &Word, last: &Word) -> Result<Vec<Word>, Flaw> {
     let span = first.span.to(last.span);
-    let flaw = |found: String| {
-        Flaw::new(Code::Range, span)
-            .found(found)
-            .expected("a range as press1..press4: the same letters, then numbers that go up")
-    };
-    let (stem, low) = split(&first.text);
-    let (other, high) = split(&last.text);
-    if low.is_empty() || high.is_empty() || stem.is_empty() {
-        return Err(flaw(
-            "a range between words that do not end in a number".into(),
-        ));
-    }
-    if stem != other {
-        return Err(flaw(format!("a range from `{stem}` to `{other}`")));
-    }
-    let padded = [low, high]
-        .iter()
-        .any(|n| n.len() > 1 && n.starts_with('0'));
-    if padded && low.len() != high.len() {
-        return Err(flaw(format!(
-            "a range from {low} to {high}, one with zeros in front"
-        )));
-    }
+    let ((stem, low), (other, high)) = (split(&first.text), split(&last.text));
+    let zeros = |digits: &str| digits.len() > 1 && digits.starts_with('0');
+    let padded = zeros(low) || zeros(high);
     let (from, to) = (number(low), number(high));
-    if from >= to {
+    let found = if low.is_empty() || high.is_empty() || stem.is_empty() {
+        "a range between words that do not end in a number".to_string()
+    } else if stem != other {
+        format!("a range from `{stem}` to `{other}`")
+    } else if padded && low.len() != high.len() {
+        format!("a range from {low} to {high}, one with zeros in front")
+    } else if from >= to {
         let what = if from == to { "an empty" } else { "a reversed" };
-        return Err(flaw(format!("{what} range, from {low} to {high}")));
-    }
-    if to - from >= NAMES {
+        format!("{what} range, from {low} to {high}")
+    } else if to - from >= NAMES {
         return Err(Flaw::new(Code::TooMany, span)
             .found(format!("a range of more than {NAMES} words"))
             .expected(format!("at most {NAMES}")));
-    }
-    let width = if padded { low.len() } else { 0 };
-    let word = |n| Word {
-        text: format!("{stem}{n:0width$}"),
-        span,
+    } else {
+        let width = if padded { low.len() } else { 0 };
+        let text = |n| format!("{stem}{n:0width$}");
+        let word = |n| Word {
+            text: text(n),
+            span,
+        };
+        return Ok((from..=to).map(word).collect());
     };
-    Ok((from..=to).map(word).collect())
+    Err(Flaw::new(Code::Range, span)
+        .found(found)
+        .expected("a range as press1..press4: the same letters, then numbers that go up"))
 }
 
 /// A text and the digits that it ends with.

@@ -43,27 +43,7 @@ pub fn resolve(statements: &[Statement]) -> Result<(House, Words), Flaw> {
         matrix.kinds[number] = kind;
         name_words[number] = Some(item.word.text.clone());
     }
-    let mut rule_numbers = rules.iter().map(|(number, ..)| *number);
-    let mut resolved = BTreeMap::new();
-    for statement in statements {
-        match statement {
-            Statement::Cell {
-                subjects,
-                objects,
-                rights,
-            } => cell(&registry, &mut matrix, (subjects, objects), rights)?,
-            Statement::Rule(syntax) => {
-                let number = rule_numbers.next().expect("every rule is listed");
-                resolved.insert(number, rule(&mut registry, syntax)?);
-            }
-            _ => {}
-        }
-    }
-    let (rules, rule_words) = resolved.into_values().unzip();
-    let right_words: BTreeMap<usize, String> = rights
-        .iter()
-        .map(|(number, item, _)| (*number, item.word.text.clone()))
-        .collect();
+    let (rules, rule_words) = cells_and_rules(statements, &mut registry, &mut matrix, &rules)?;
     let house = House {
         rights: rights.len(),
         matrix,
@@ -71,11 +51,46 @@ pub fn resolve(statements: &[Statement]) -> Result<(House, Words), Flaw> {
     };
     let words = Words {
         plain: false,
-        rights: right_words.into_values().collect(),
+        rights: in_order(&rights),
         names: name_words,
         rules: rule_words,
     };
     Ok((house, words))
+}
+
+/// Fills the cells, and gives the rules in the order of their numbers.
+fn cells_and_rules(
+    statements: &[Statement],
+    registry: &mut Registry,
+    matrix: &mut Matrix,
+    rules: &[Listed],
+) -> Result<(Vec<Rule>, Vec<RuleWords>), Flaw> {
+    let mut numbers = rules.iter().map(|(number, ..)| *number);
+    let mut resolved = BTreeMap::new();
+    for statement in statements {
+        match statement {
+            Statement::Cell {
+                subjects,
+                objects,
+                rights,
+            } => cell(registry, matrix, (subjects, objects), rights)?,
+            Statement::Rule(syntax) => {
+                let number = numbers.next().expect("every rule is listed");
+                resolved.insert(number, rule(registry, syntax)?);
+            }
+            _ => {}
+        }
+    }
+    Ok(resolved.into_values().unzip())
+}
+
+/// The words of what is listed, by number.
+fn in_order(listed: &[Listed]) -> Vec<String> {
+    let words: BTreeMap<usize, String> = listed
+        .iter()
+        .map(|(number, item, _)| (*number, item.word.text.clone()))
+        .collect();
+    words.into_values().collect()
 }
 
 /// The items of one sort with their numbers, entered into the registry.

@@ -1,12 +1,12 @@
 //! A made file is compared with what its table said: whatever differs is seen.
 
-use super::tables::text;
 use super::wording::Wording;
+use super::writing::text;
 use reference::generate::{any, lively, small};
 use reference::random::Random;
-use reference::report::Report;
+use reference::report::{Group, Report};
 use std::ffi::OsStr;
-use tugcaphi::house::Kind;
+use tugcaphi::house::{Kind, Rule};
 use tugcaphi::input::made;
 use tugcaphi::library::check;
 use tugcaphi::table::readback::differences;
@@ -14,48 +14,29 @@ use tugcaphi::table::{self, Table};
 
 pub fn run(report: &mut Report, seed: u64) {
     let mut random = Random::new(seed ^ 0xBAC);
+    let random = &mut random;
     report.group(
         "an accepted file with another byte says something else",
         20_000,
-        |group| {
-            for _ in 0..30 {
-                let (table, file) = a_table(&mut random);
-                group.demand(differences(&table.statements, &file).is_empty(), || {
-                    "a file that is the table's own is said to differ".into()
-                });
-                for at in 0..file.len() {
-                    let mut other = file.clone();
-                    other[at] = other[at].wrapping_add(random.between(1, 255) as u8);
-                    if at % 2 == 0 {
-                        // Small changes are accepted more often.
-                        other[at] = file[at] ^ (1 << random.below(3));
-                    }
-                    let seen =
-                        check(&other) != 0 || !differences(&table.statements, &other).is_empty();
-                    group.input(seen, || {
-                        format!("byte {at}: {} for {}", other[at], file[at])
-                    });
-                }
-            }
-        },
+        |group| other_bytes(group, random),
     );
     report.group("a word put to another number is seen", 500, |group| {
         for _ in 0..500 {
-            let (mut table, _) = a_table(&mut random);
-            let swapped = swap(&mut random, &mut table);
+            let (mut table, _) = a_table(random);
+            let swapped = swap(random, &mut table);
             let answer = made(&table, OsStr::new("a.table"));
-            let seen = matches!(&answer, Err(_)) || matches!(&answer, Ok((_, n)) if *n != 0);
+            let seen = !matches!(&answer, Ok((_, 0)));
             group.input(seen || !swapped, || {
                 "a wrong file would have been written".into()
             });
         }
     });
     report.group("what the proved reader refuses is not made", 3, |group| {
-        let mut tables = [(); 3].map(|_| a_table(&mut random).0);
+        let mut tables = [(); 3].map(|_| a_table(random).0);
         tables[0].house.rights = 9;
         tables[1].house.matrix.kinds = [Kind::Absent; 32];
         tables[1].house.matrix.cell_mut(0, 0).insert(0);
-        tables[2].house.rules = vec![tugcaphi::house::Rule {
+        tables[2].house.rules = vec![Rule {
             blanks: 5,
             conditions: Vec::new(),
             steps: Vec::new(),
@@ -67,6 +48,27 @@ pub fn run(report: &mut Report, seed: u64) {
             });
         }
     });
+}
+
+fn other_bytes(group: &mut Group, random: &mut Random) {
+    for _ in 0..30 {
+        let (table, file) = a_table(random);
+        group.demand(differences(&table.statements, &file).is_empty(), || {
+            "a file that is the table's own is said to differ".into()
+        });
+        for at in 0..file.len() {
+            let mut other = file.clone();
+            // Small changes are accepted more often.
+            other[at] = match at % 2 {
+                0 => file[at] ^ (1 << random.below(3)),
+                _ => file[at].wrapping_add(random.between(1, 255) as u8),
+            };
+            let seen = check(&other) != 0 || !differences(&table.statements, &other).is_empty();
+            group.input(seen, || {
+                format!("byte {at}: {} for {}", other[at], file[at])
+            });
+        }
+    }
 }
 
 fn a_table(random: &mut Random) -> (Table, Vec<u8>) {

@@ -5,7 +5,7 @@
 use super::json::{self, Value};
 use super::schema::Schema;
 use super::transcripts::{Shown, Told};
-use reference::report::Report;
+use reference::report::{Group, Report};
 use std::collections::BTreeSet;
 use std::fs;
 use tugcaphi::table::mistake::Code;
@@ -27,53 +27,64 @@ const REFUSALS: [u8; 18] = [
 ];
 
 pub fn run(report: &mut Report, shown: &Shown) {
-    report.group("every command with every exit status", 17, |group| {
-        for (command, statuses) in STATUSES {
-            for &status in statuses {
-                let seen = |told: &Told| {
-                    told.words.first().is_some_and(|word| word == command)
-                        && told.said.status == status
-                };
-                group.input(shown.told.iter().any(seen), || {
-                    format!("no transcript has {command} with status {status}")
-                });
-            }
-        }
+    report.group("every command with every exit status", 19, |group| {
+        statuses(group, shown)
     });
-    report.group(
-        "every mistake of the table reader",
-        Code::ALL.len() as u64,
-        |group| {
-            let seen: BTreeSet<&str> = shown
-                .files
-                .iter()
-                .filter_map(|file| tugcaphi::table::read(file).err())
-                .map(|mistake| mistake.code.word())
-                .collect();
-            for code in Code::ALL {
-                group.input(seen.contains(code.word()), || {
-                    format!("no transcript has a table with the mistake {}", code.word())
-                });
-            }
-        },
-    );
+    report.group("every mistake of the table reader", 37, |group| {
+        mistakes(group, shown)
+    });
     report.group("every refusal that the program can meet", 18, |group| {
-        for refusal in REFUSALS {
-            let text = format!("REFUSED {refusal}");
-            let padded = format!("REFUSED  {refusal}: ");
+        refusals(group, shown)
+    });
+    let answers = answers(shown);
+    report.group("answers for programs are as the schema says", 20, |group| {
+        valid(group, &answers)
+    });
+    report.group("every sort of answer for programs", 19, |group| {
+        sorts(group, &answers)
+    });
+}
+
+fn statuses(group: &mut Group, shown: &Shown) {
+    for (command, statuses) in STATUSES {
+        for &status in statuses {
             let seen = |told: &Told| {
-                let out = String::from_utf8_lossy(&told.said.out);
-                let headed = out.match_indices(&text).any(|(at, _)| {
-                    !out[at + text.len()..].starts_with(|c: char| c.is_ascii_digit())
-                });
-                headed || out.contains(&padded)
+                let same = told.words.first().is_some_and(|word| word == command);
+                same && told.said.status == status
             };
             group.input(shown.told.iter().any(seen), || {
-                format!("no transcript is refused with {refusal}")
+                format!("no transcript has {command} with status {status}")
             });
         }
-    });
-    answers(report, shown);
+    }
+}
+
+fn mistakes(group: &mut Group, shown: &Shown) {
+    let read = shown.files.iter().map(|file| tugcaphi::table::read(file));
+    let mistakes = read.filter_map(|table| table.err());
+    let seen: BTreeSet<&str> = mistakes.map(|mistake| mistake.code.word()).collect();
+    for code in Code::ALL {
+        group.input(seen.contains(code.word()), || {
+            format!("no transcript has a table with the mistake {}", code.word())
+        });
+    }
+}
+
+fn refusals(group: &mut Group, shown: &Shown) {
+    for refusal in REFUSALS {
+        let text = format!("REFUSED {refusal}");
+        let padded = format!("REFUSED  {refusal}: ");
+        let seen = |told: &Told| {
+            let out = String::from_utf8_lossy(&told.said.out);
+            let headed = out
+                .match_indices(&text)
+                .any(|(at, _)| !out[at + text.len()..].starts_with(|c: char| c.is_ascii_digit()));
+            headed || out.contains(&padded)
+        };
+        group.input(shown.told.iter().any(seen), || {
+            format!("no transcript is refused with {refusal}")
+        });
+    }
 }
 
 /// What every answer for programs can be, by its command.
@@ -86,47 +97,44 @@ const ANSWERS: [(&str, &[&str]); 6] = [
     ("replay", &["no leak", "leak", "refused", "error"]),
 ];
 
-fn answers(report: &mut Report, shown: &Shown) {
-    let schema = fs::read_to_string("../docs/tugcaphi.schema.json").unwrap_or_default();
+type Answers<'a> = Vec<(&'a Told, Result<Value, String>)>;
+
+/// What commands with --json printed.
+fn answers(shown: &Shown) -> Answers<'_> {
     let asked = |told: &&Told| told.words.iter().any(|word| word == "--json");
-    let answers: Vec<(&Told, Result<Value, String>)> = shown
-        .told
-        .iter()
-        .filter(asked)
-        .map(|told| (told, json::parse(&String::from_utf8_lossy(&told.said.out))))
-        .collect();
-    report.group("answers for programs are as the schema says", 20, |group| {
-        let schema = match json::parse(&schema) {
-            Ok(schema) => Schema::new(schema),
-            Err(wrong) => return group.demand(false, || format!("the schema: {wrong}")),
-        };
-        for (told, answer) in &answers {
-            let checked = answer.clone().and_then(|answer| schema.check(&answer));
-            group.input(checked.is_ok(), || format!("{:?}: {checked:?}", told.words));
-            let status = answer
-                .as_ref()
-                .ok()
-                .and_then(|answer| answer.get("status").cloned());
-            let wanted = Some(Value::Number(told.said.status as u64));
-            group.demand(status == wanted, || {
-                format!("{:?}: status {status:?}", told.words)
+    let told = shown.told.iter().filter(asked);
+    told.map(|told| (told, json::parse(&String::from_utf8_lossy(&told.said.out))))
+        .collect()
+}
+
+fn valid(group: &mut Group, answers: &Answers) {
+    let schema = fs::read_to_string("../docs/tugcaphi.schema.json").unwrap_or_default();
+    let schema = match json::parse(&schema) {
+        Ok(schema) => Schema::new(schema),
+        Err(wrong) => return group.demand(false, || format!("the schema: {wrong}")),
+    };
+    for (told, answer) in answers {
+        let checked = answer.clone().and_then(|answer| schema.check(&answer));
+        group.input(checked.is_ok(), || format!("{:?}: {checked:?}", told.words));
+        let status = answer.as_ref().ok().and_then(|answer| answer.get("status"));
+        let wanted = Value::Number(told.said.status as u64);
+        group.demand(status == Some(&wanted), || {
+            format!("{:?}: status {status:?}", told.words)
+        });
+    }
+}
+
+fn sorts(group: &mut Group, answers: &Answers) {
+    for (command, sorts) in ANSWERS {
+        let of = answers.iter().filter(|(told, _)| told.words[0] == command);
+        let given = of.filter_map(|(_, answer)| answer.as_ref().ok());
+        let seen: Vec<String> = given.flat_map(sorts_of).collect();
+        for sort in sorts {
+            group.input(seen.iter().any(|one| one == sort), || {
+                format!("no transcript has {command} --json with {sort}")
             });
         }
-    });
-    report.group("every sort of answer for programs", 19, |group| {
-        for (command, sorts) in ANSWERS {
-            let seen: Vec<String> = answers
-                .iter()
-                .filter(|(told, _)| told.words[0] == command)
-                .flat_map(|(_, answer)| answer.iter().flat_map(sorts_of).collect::<Vec<String>>())
-                .collect();
-            for sort in sorts {
-                group.input(seen.iter().any(|one| one == sort), || {
-                    format!("no transcript has {command} --json with {sort}")
-                });
-            }
-        }
-    });
+    }
 }
 
 /// The words in an answer that say how it came out.

@@ -18,6 +18,7 @@ mod tables;
 mod terminals;
 mod transcripts;
 mod wording;
+mod writing;
 mod xml;
 
 use reference::report::{Arguments, Report};

@@ -96,30 +96,7 @@ fn picture_held(svg: &str, content: &Content, verdicts: &[Verdict]) -> Result<()
 
 /// Every shape and every beginning of a text lies inside the picture.
 fn inside(element: &Element, (x, y): (i64, i64), size: (i64, i64)) -> Result<(), String> {
-    let number = |name: &str| -> i64 {
-        element
-            .attribute(name)
-            .and_then(|value| value.parse().ok())
-            .unwrap_or(0)
-    };
-    let radius = number("r");
-    let corners = match element.name.as_str() {
-        "rect" => vec![
-            (number("x"), number("y")),
-            (
-                number("x") + number("width"),
-                number("y") + number("height"),
-            ),
-        ],
-        "circle" => vec![
-            (number("cx") - radius, number("cy") - radius),
-            (number("cx") + radius, number("cy") + radius),
-        ],
-        "text" => vec![(number("x"), number("y"))],
-        "line" => vec![(number("x1"), number("y1")), (number("x2"), number("y2"))],
-        _ => Vec::new(),
-    };
-    for (corner_x, corner_y) in corners {
+    for (corner_x, corner_y) in corners(element) {
         let (at_x, at_y) = (x + corner_x, y + corner_y);
         let in_it = (0..=size.0).contains(&at_x) && (0..=size.1).contains(&at_y);
         is(in_it, || {
@@ -140,49 +117,64 @@ fn inside(element: &Element, (x, y): (i64, i64), size: (i64, i64)) -> Result<(),
     Ok(())
 }
 
+/// The outermost points of a shape.
+fn corners(element: &Element) -> Vec<(i64, i64)> {
+    let number = |name: &str| -> i64 {
+        let value = element.attribute(name);
+        value.and_then(|value| value.parse().ok()).unwrap_or(0)
+    };
+    let (x, y, radius) = (number("x"), number("y"), number("r"));
+    let (middle_x, middle_y) = (number("cx"), number("cy"));
+    match element.name.as_str() {
+        "rect" => vec![(x, y), (x + number("width"), y + number("height"))],
+        "circle" => vec![
+            (middle_x - radius, middle_y - radius),
+            (middle_x + radius, middle_y + radius),
+        ],
+        "text" => vec![(x, y)],
+        "line" => vec![(number("x1"), number("y1")), (number("x2"), number("y2"))],
+        _ => Vec::new(),
+    }
+}
+
 fn page_held(page: &str, content: &Content, verdicts: &[Verdict]) -> Result<(), String> {
     let root = parse(page)?;
-    is(
-        root.name == "html" && page.starts_with("<!doctype html>"),
-        || "no page".into(),
-    )?;
-    let words = &content.words;
-    let rows: Vec<String> = root.named("tr").iter().map(|row| row.text()).collect();
-    let steps: Vec<String> = root.named("li").iter().map(|item| item.text()).collect();
+    let begins = page.starts_with("<!doctype html>");
+    is(root.name == "html" && begins, || "no page".into())?;
+    let titles = root.named("title");
+    let titled = |title: &&Element| title.text().contains("a <table> & \"more\"");
+    is(titles.iter().any(titled), || "another title".into())?;
     let mut pictures = 0;
     for verdict in verdicts {
-        let right = words.right(usize::from(verdict.right));
-        let word = match &verdict.ruling {
-            Ruling::Safe(_) => "SAFE",
-            Ruling::Unsafe(_) => "UNSAFE",
-            Ruling::Refused(_) => "REFUSED",
-        };
-        let begin = format!("{right}{word}");
-        is(rows.iter().any(|row| row.starts_with(&begin)), || {
-            format!("no row {begin}")
-        })?;
-        if let Ruling::Unsafe(leak) = &verdict.ruling {
-            pictures += 1;
-            for done in &leak.steps {
-                let line = format!(
-                    "{} {}",
-                    story::call(words, done.step),
-                    story::sentence(words, &done.acts)
-                );
-                is(steps.contains(&line), || format!("no step {line}"))?;
-            }
-        }
+        verdict_held(&root, content, verdict)?;
+        pictures += usize::from(matches!(verdict.ruling, Ruling::Unsafe(_)));
     }
     is(root.named("svg").len() == pictures, || {
         "a picture for each unsafe right".into()
     })?;
-    is(
-        root.named("title")
-            .iter()
-            .any(|t| t.text().contains("a <table> & \"more\"")),
-        || "another title".into(),
-    )?;
     local(&root)
+}
+
+/// A verdict has its row, and an unsafe one all its steps.
+fn verdict_held(root: &Element, content: &Content, verdict: &Verdict) -> Result<(), String> {
+    let words = &content.words;
+    let right = words.right(usize::from(verdict.right));
+    let (word, steps) = match &verdict.ruling {
+        Ruling::Safe(_) => ("SAFE", &[][..]),
+        Ruling::Unsafe(leak) => ("UNSAFE", leak.steps.as_slice()),
+        Ruling::Refused(_) => ("REFUSED", &[][..]),
+    };
+    let begin = format!("{right}{word}");
+    let rows = root.named("tr");
+    let row = |row: &&Element| row.text().starts_with(&begin);
+    is(rows.iter().any(row), || format!("no row {begin}"))?;
+    let told: Vec<String> = root.named("li").iter().map(|item| item.text()).collect();
+    for done in steps {
+        let call = story::call(words, done.step);
+        let line = format!("{call} {}", story::sentence(words, &done.acts));
+        is(told.contains(&line), || format!("no step {line}"))?;
+    }
+    Ok(())
 }
 
 /// Nothing is fetched from elsewhere and nothing runs.

@@ -214,8 +214,8 @@ impl Reading {
         let mut step = [255; 5];
         step[0] = self.find(&self.rules, &line.word()?)? as u8;
         line.expect("(")?;
-        for place in 1.. {
-            step[place] = self.find(&self.names, &line.word()?)? as u8;
+        for actual in &mut step[1..] {
+            *actual = self.find(&self.names, &line.word()?)? as u8;
             if !line.passes(",") {
                 break;
             }

@@ -24,46 +24,45 @@ const WIDE: &str = "table 1\nrights own\nsubjects formula1..formula20\ncell (for
 pub fn run(report: &mut Report) {
     let folder = Folder::new("terminals");
     folder.write("wide.table", WIDE.as_bytes());
-    report.group("colour and width on a terminal", 8, |group| {
+    report.group("colour on a terminal alone", 4, |group| {
         let judge = ["judge", "wide.table"];
-        let show = ["show", "wide.table"];
         let coloured = |text: &str| text.contains('\u{1b}');
-        let longest = |text: &str| {
-            text.lines()
-                .map(|line| line.chars().count())
-                .max()
-                .unwrap_or(0)
-        };
-
         let said = on_terminal(&folder, &judge, &[("TERM", "xterm")], 80);
         group.input(coloured(&said.0), || {
             format!("no colour on a terminal: {said:?}")
         });
-        let said = on_terminal(&folder, &judge, &[("TERM", "xterm"), ("NO_COLOR", "1")], 80);
+        let plain = [("TERM", "xterm"), ("NO_COLOR", "1")];
+        let said = on_terminal(&folder, &judge, &plain, 80);
         group.input(!coloured(&said.0), || "colour against NO_COLOR".into());
         let said = on_terminal(&folder, &judge, &[("TERM", "dumb")], 80);
         group.input(!coloured(&said.0), || "colour on a dumb terminal".into());
-        let words: Vec<String> = judge.iter().map(|word| word.to_string()).collect();
-        let piped = folder.run(&words, None);
-        let piped = String::from_utf8_lossy(&piped.out).into_owned();
-        group.input(!coloured(&piped), || "colour in a pipe".into());
-
+        let said = in_pipe(&folder, &judge);
+        group.input(!coloured(&said), || "colour in a pipe".into());
+    });
+    report.group("the grid's width on a terminal alone", 4, |group| {
+        let show = ["show", "wide.table"];
         for columns in [60, 100] {
             let said = on_terminal(&folder, &show, &[("TERM", "dumb")], columns);
-            let grid = said.0.lines().filter(|line| line.starts_with('#'));
-            let grid = grid.collect::<Vec<&str>>().join("\n");
-            let wide = longest(&grid);
-            group.input(wide <= columns && grid.contains("formula20"), || {
+            let wide = grid_width(&said.0);
+            group.input(wide <= columns && said.0.contains("formula20"), || {
                 format!("a grid of {wide} on {columns} columns")
             });
         }
-        let words: Vec<String> = show.iter().map(|word| word.to_string()).collect();
-        let piped = folder.run(&words, None);
-        let wide = longest(&String::from_utf8_lossy(&piped.out));
+        let wide = grid_width(&in_pipe(&folder, &show));
         group.input(wide > 180, || format!("the grid in a pipe is {wide} wide"));
         let said = on_terminal(&folder, &["make", "wide.table", "-o", "-"], &[], 80);
         group.input(said.1 == 3, || "a house file on a terminal".into());
     });
+}
+
+fn in_pipe(folder: &Folder, words: &[&str]) -> String {
+    let words: Vec<String> = words.iter().map(|word| word.to_string()).collect();
+    String::from_utf8_lossy(&folder.run(&words, None).out).into_owned()
+}
+
+fn grid_width(text: &str) -> usize {
+    let grid = text.lines().filter(|line| line.starts_with('#'));
+    grid.map(|line| line.chars().count()).max().unwrap_or(0)
 }
 
 /// What the program prints on a terminal of so many columns, and its exit status.
@@ -73,27 +72,7 @@ fn on_terminal(
     variables: &[(&str, &str)],
     columns: usize,
 ) -> (String, i32) {
-    let master = OpenOptions::new()
-        .read(true)
-        .write(true)
-        .open("/dev/ptmx")
-        .expect("a terminal");
-    let descriptor = master.as_raw_fd();
-    let size: [u16; 4] = [24, columns as u16, 0, 0];
-    // SAFETY: the descriptor is that of an open file; the size is four short
-    // numbers; the name is copied before another call could change it.
-    let slave = unsafe {
-        grantpt(descriptor);
-        unlockpt(descriptor);
-        ioctl(descriptor, SET_WINDOW_SIZE, size.as_ptr());
-        CStr::from_ptr(ptsname(descriptor))
-            .to_string_lossy()
-            .into_owned()
-    };
-    let screen = OpenOptions::new()
-        .write(true)
-        .open(slave)
-        .expect("a terminal");
+    let (master, screen) = terminal(columns);
     let mut command = Command::new(program());
     command
         .args(words)
@@ -110,6 +89,26 @@ fn on_terminal(
     let shown = all_of(master);
     let status = child.wait().expect("the program").code().unwrap_or(-1);
     (shown.replace("\r\n", "\n"), status)
+}
+
+/// A terminal: the side that is read, and the side that a program writes to.
+fn terminal(columns: usize) -> (File, File) {
+    let mut options = OpenOptions::new();
+    let options = options.read(true).write(true);
+    let master = options.open("/dev/ptmx").expect("a terminal");
+    let descriptor = master.as_raw_fd();
+    let size: [u16; 4] = [24, columns as u16, 0, 0];
+    // SAFETY: the descriptor is that of an open file; the size is four short
+    // numbers; the name is copied before another call could change it.
+    let slave = unsafe {
+        grantpt(descriptor);
+        unlockpt(descriptor);
+        ioctl(descriptor, SET_WINDOW_SIZE, size.as_ptr());
+        CStr::from_ptr(ptsname(descriptor))
+            .to_string_lossy()
+            .into_owned()
+    };
+    (master, options.open(slave).expect("a terminal"))
 }
 
 /// A terminal ends with an error when the last program has closed it.

@@ -80,52 +80,48 @@ impl Pool {
     }
 }
 
+const LETTERS: &str = "abcdefghijklmnopqrstuvwxyzABCDXYZéüñøžßΩжあ朱";
+const OTHERS: &str = " ()#,:;=\"\\.<>&'-_/+0123456789";
+
+fn one(random: &mut Random, of: &str) -> char {
+    let characters: Vec<char> = of.chars().collect();
+    random.pick(&characters)
+}
+
 fn spell(random: &mut Random) -> String {
-    let letters: Vec<char> = "abcdefghijklmnopqrstuvwxyzABCDXYZéüñøžßΩжあ朱"
-        .chars()
-        .collect();
-    let odd: Vec<char> = " ()#,:;=\"\\.<>&'-_/+0123456789".chars().collect();
-    let letter = |random: &mut Random| random.pick(&letters);
-    let mut word = String::new();
-    match random.below(10) {
+    let word = match random.below(10) {
         0 => {
             let reserved: Vec<&str> = RESERVED.split_whitespace().collect();
-            word.push_str(random.pick(&reserved));
+            random.pick(&reserved).to_string()
         }
-        1..=3 => {
-            // Of anything, as long as its spaces can be told apart.
-            for _ in 0..random.between(1, 12) {
-                let next = if random.percent(50) {
-                    random.pick(&odd)
-                } else {
-                    letter(random)
-                };
-                word.push(next);
-            }
-            while word.contains("  ") {
-                word = word.replace("  ", " ");
-            }
-            word = word.trim().to_string();
-        }
-        4 => {
-            word.push(letter(random));
-            word.push('-');
-            word.push(letter(random));
-        }
+        1..=3 => anything(random),
+        4 => format!("{}-{}", one(random, LETTERS), one(random, LETTERS)),
         _ => {
-            word.push(letter(random));
-            for _ in 0..random.below(9) {
-                word.push(letter(random));
-            }
+            let count = random.between(1, 9);
+            let mut word: String = (0..count).map(|_| one(random, LETTERS)).collect();
             if random.percent(20) {
                 word.push_str(&random.below(40).to_string());
             }
+            word
         }
-    }
+    };
     match word.is_empty() {
         true => spell(random),
         false => word,
     }
+}
+
+/// A word of any characters, as long as its spaces can be told apart.
+fn anything(random: &mut Random) -> String {
+    let mut word = String::new();
+    for _ in 0..random.between(1, 12) {
+        let of = random.pick(&[LETTERS, OTHERS]);
+        word.push(one(random, of));
+    }
+    while word.contains("  ") {
+        word = word.replace("  ", " ");
+    }
+    word.trim().to_string()
 }
 
 /// Whether a word may stand without quotes, by docs/TABLES.md.
