@@ -11,6 +11,9 @@ use crate::verdict::{text, Leak, Ruling, Verdict};
 use crate::words::Words;
 use std::fmt::Write;
 
+/// More steps than these are a long list.
+const LONG: usize = 12;
+
 const STYLE: &str = "\
 :root{color-scheme:light}\
 body{margin:0;background:#f6f7f9;color:#1f2430;font:16px/1.5 system-ui,'Segoe UI','Helvetica Neue',Arial,'Noto Sans',sans-serif}\
@@ -26,8 +29,8 @@ thead th{border-bottom:2px solid #cfd4dd}.grid td,.grid th{border:1px solid #e6e
 .is-safe{background:#e3f4e7;color:#14632b}.is-unsafe{background:#fbe3e1;color:#9a1c15}.is-refused{background:#fdf0d8;color:#7a4a00}\
 code{font:.92em ui-monospace,'SF Mono',Menlo,Consolas,'DejaVu Sans Mono',monospace}\
 ol{margin:.5rem 0;padding-left:2rem}li{margin:.25rem 0}li b{font-weight:600}\
-.came{font-weight:600;color:#9a1c15}svg{max-width:100%;height:auto}\
-@media print{body{background:#fff}section{break-inside:avoid}}";
+.came{font-weight:600;color:#9a1c15}svg{display:block}\
+@media print{body{background:#fff}section{break-inside:avoid}svg{max-width:100%;height:auto}}";
 
 /// The page of a judgement.
 pub fn page(title: &str, content: &Content, verdicts: &[Verdict]) -> String {
@@ -90,22 +93,33 @@ fn summaries(content: &Content, verdicts: &[Verdict]) -> String {
     table + "</tbody>\n</table></div>\n"
 }
 
+/// The steps of an unsafe right and its picture; before a long list the picture comes first.
 fn unsafe_section(content: &Content, verdict: &Verdict, leak: &Leak) -> String {
     let words = &content.words;
-    let right = escaped(&words.right(usize::from(verdict.right)));
-    let mut body = String::from("<ol>\n");
+    let right = words.right(usize::from(verdict.right));
+    let came = format!(
+        "<p class=\"came\">{}</p>\n",
+        escaped(&text::outcome(words, leak))
+    );
+    let title = format!("how {right} comes into a cell");
+    let drawn = panel::panel(content, verdict, false).element(&title);
+    let picture = format!("<div class=\"wide\">{drawn}</div>\n");
+    let steps = steps(words, leak);
+    let body = match leak.steps.len() > LONG {
+        true => format!("{came}{picture}{steps}"),
+        false => format!("{steps}{came}{picture}"),
+    };
+    section(&format!("{} {}", escaped(&right), badge(verdict)), &body)
+}
+
+fn steps(words: &Words, leak: &Leak) -> String {
+    let mut list = String::from("<ol>\n");
     for done in &leak.steps {
         let call = escaped(&story::call(words, done.step));
         let sentence = escaped(&story::sentence(words, &done.acts));
-        let _ = writeln!(body, "<li><b>{call}</b> {sentence}</li>");
+        let _ = writeln!(list, "<li><b>{call}</b> {sentence}</li>");
     }
-    body += "</ol>\n";
-    let came = escaped(&text::outcome(words, leak));
-    let _ = writeln!(body, "<p class=\"came\">{came}</p>");
-    let drawn = panel::panel(content, verdict, false);
-    let title = format!("how {} comes into a cell", words.right(leak.held.0));
-    let _ = writeln!(body, "<div class=\"wide\">{}</div>", drawn.element(&title));
-    section(&format!("{right} {}", badge(verdict)), &body)
+    list + "</ol>\n"
 }
 
 fn matrix(house: &House, words: &Words) -> String {

@@ -17,7 +17,7 @@ text{font-family:system-ui,'Segoe UI','Helvetica Neue',Arial,'Noto Sans',sans-se
 .title{font-size:18px;font-weight:600}.head{font-size:15px;font-weight:600}\
 .name{font-weight:600}.quiet{fill:#6b7280}.old{fill:#3b4252}.gone{fill:#8a8f9c;text-decoration:line-through}\
 .good{fill:#1a7f37;font-weight:600}.bad{fill:#b3261e;font-weight:600}.warn{fill:#8a5300;font-weight:600}\
-.step{fill:#1f4fbf;font-weight:600}.count{font-size:11px;font-weight:600;fill:#fff;text-anchor:middle}\
+.step{fill:#1f4fbf;font-weight:600}.count{font-size:11px;font-weight:600;fill:#fff;text-anchor:middle}.small{font-size:8.5px}.tiny{font-size:6.5px}\
 .card{fill:#fff;stroke:#d5d8df}.line{stroke:#e3e6ec}.stripe{fill:#f6f7f9}.new{fill:#eef3ff;stroke:#9db4ec;stroke-dasharray:4 3}\
 .hit{fill:#fdeceb;stroke:#e0a09b}.held{fill:#e9f6ec;stroke:#a5d3b0}\
 .dot{fill:#1f4fbf}.dot-bad{fill:#b3261e}.dot-gone{fill:#8a8f9c}\
@@ -59,12 +59,16 @@ impl Canvas {
     /// A number in a disc, the disc's middle at x and y.
     pub fn count(&mut self, x: usize, y: usize, class: &str, number: usize) {
         let number = number.to_string();
-        let radius = if number.len() > 2 { 12 } else { 9 };
+        let size = match number.len() {
+            1 | 2 => "count",
+            3 => "count small",
+            _ => "count tiny",
+        };
         let _ = writeln!(
             self.body,
-            r#"<circle cx="{x}" cy="{y}" r="{radius}" class="{class}"/>"#
+            r#"<circle cx="{x}" cy="{y}" r="9" class="{class}"/>"#
         );
-        self.text(x, y + 4, "count", &number);
+        self.text(x, y + 4, size, &number);
     }
 
     /// Texts behind each other, each with its class; how wide they are is the reader's business.

@@ -61,8 +61,8 @@ pub fn layout(content: &Content, steps: &[Done]) -> Layout {
     let mut names = start.names();
     names.extend(created.keys().filter(|name| !start.names().contains(name)));
     names.sort_unstable();
-    let part = names.len() > MOST_NAMES && !steps.is_empty();
-    if part {
+    let all = names.len();
+    if all > MOST_NAMES && !steps.is_empty() {
         let taking_part = taking_part(steps);
         names.retain(|name| taking_part.contains(name));
     }
@@ -77,7 +77,7 @@ pub fn layout(content: &Content, steps: &[Done]) -> Layout {
         entries: entries(start, steps),
         width: 0,
         height: 0,
-        part,
+        part: names.len() < all,
     };
     layout.place_columns(content, &subjects, &names, &created);
     layout.place_rows(&subjects, &names, &created);

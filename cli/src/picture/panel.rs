@@ -8,8 +8,9 @@ use crate::machine::Act;
 use crate::story;
 use crate::verdict::{text, Leak, Ruling, Verdict};
 
-/// Steps that are listed; the printed answer has all.
-const MOST_LISTED: usize = 40;
+/// Steps that are listed, from the first and up to the last; the printed answer has all.
+const FIRST_LISTED: usize = 30;
+const LAST_LISTED: usize = 10;
 
 /// Draws a verdict. `whole`: with the verdict in words and the list of steps, which a page has beside it.
 pub fn panel(content: &Content, verdict: &Verdict, whole: bool) -> Canvas {
@@ -59,8 +60,19 @@ fn head(canvas: &mut Canvas, content: &Content, verdict: &Verdict) {
 
 fn list(canvas: &mut Canvas, content: &Content, leak: &Leak) {
     let words = &content.words;
+    let all = leak.steps.len();
     canvas.height += PAD / 2;
-    for (i, done) in leak.steps.iter().take(MOST_LISTED).enumerate() {
+    for (i, done) in leak.steps.iter().enumerate() {
+        if (FIRST_LISTED..all.saturating_sub(LAST_LISTED)).contains(&i) {
+            if i == FIRST_LISTED {
+                let between = all - FIRST_LISTED - LAST_LISTED;
+                canvas.say(
+                    "quiet",
+                    &format!("{between} steps, which the printed answer has"),
+                );
+            }
+            continue;
+        }
         let y = canvas.height + 8;
         canvas.count(PAD + 10, y - 4, disc(leak, i), i + 1);
         let call = story::call(words, done.step);
@@ -68,13 +80,6 @@ fn list(canvas: &mut Canvas, content: &Content, leak: &Leak) {
         canvas.texts(PAD + DISC + 4, y, &[("name", &call), ("", &sentence)]);
         canvas.widen(PAD + DISC + measure(&call, 13) + measure(&sentence, 13));
         canvas.height += LINE;
-    }
-    let more = leak.steps.len().saturating_sub(MOST_LISTED);
-    if more > 0 {
-        canvas.say(
-            "quiet",
-            &format!("and {more} steps more, which the printed answer has"),
-        );
     }
     canvas.say("bad", &text::outcome(words, leak));
 }
