@@ -4,12 +4,11 @@ use super::{Answer, Command, View, FORCE, GOOD, LEAK, NAMES, REFUSED};
 use crate::arguments::{Arguments, Choice};
 use crate::failure::Failure;
 use crate::input::{self, Content, Input};
+use crate::output::{self, Manner};
 use crate::picture;
-use crate::replace;
 use crate::report;
 use crate::verdict::{self, json, text, Ruling, Verdict};
 use std::ffi::{OsStr, OsString};
-use std::path::Path;
 
 pub const COMMAND: Command = Command {
     name: "judge",
@@ -139,7 +138,8 @@ fn write(path: &OsStr, content: &[u8], force: bool) -> Result<Vec<String>, Failu
             advice,
         ));
     }
-    let mut notes = replace::create(Path::new(path), force, true, content)?;
+    let manner = Manner { force, wait: true };
+    let mut notes = output::write(path, content, &manner)?;
     notes.push(format!("wrote {}", input::shown(path)));
     Ok(notes)
 }
