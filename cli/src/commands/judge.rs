@@ -48,7 +48,7 @@ fn run(arguments: &Arguments, view: &View) -> Result<Answer, Failure> {
     let input = input::read(&arguments.plain[0], arguments.value("--names"))?;
     let content = match &input.content {
         Ok(content) => content,
-        Err(refusal) => return Ok(super::show::refused(&input, *refusal, view)),
+        Err(refusal) => return Ok(super::refused(&input, *refusal, view)),
     };
     let verdicts: Vec<Verdict> = asked(&arguments.plain[1..], content)?
         .into_iter()

@@ -35,7 +35,7 @@ fn run(arguments: &Arguments, view: &View) -> Result<Answer, Failure> {
     let trace = trace::read(input::bytes(trace)?, &input::shown(trace))?;
     let content = match &input.content {
         Ok(content) => content,
-        Err(refusal) => return Ok(super::show::refused(&input, *refusal, view)),
+        Err(refusal) => return Ok(super::refused(&input, *refusal, view)),
     };
     let rights: Vec<u8> = match arguments.plain.get(2) {
         Some(right) => vec![content.words.right_number(right)?],
