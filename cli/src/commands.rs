@@ -9,7 +9,9 @@ pub mod show;
 
 use crate::arguments::{Arguments, Choice};
 use crate::failure::Failure;
+use crate::input::Input;
 use crate::json::Json;
+use crate::refused::BadFile;
 use crate::terminal::Style;
 
 /// How an answer is to look.
@@ -93,6 +95,19 @@ pub const NO_WAIT: Choice = Choice {
     value: None,
     help: "stop at once if another run is at work on the file, instead of waiting",
 };
+
+/// The answer of a command to a file that the proved reader refuses.
+pub fn refused(input: &Input, refusal: u8, view: &View) -> Answer {
+    let bad = BadFile::new(&input.file, refusal);
+    let mut json = vec![("input", input.json()), ("answer", "refused".into())];
+    json.extend(bad.json());
+    Answer {
+        status: REFUSED,
+        text: bad.lines(&input.path, view.style).into_bytes(),
+        json,
+        ..Answer::default()
+    }
+}
 
 impl Command {
     pub fn choices(&self) -> Vec<&Choice> {

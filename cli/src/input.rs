@@ -15,6 +15,7 @@ use std::ffi::OsStr;
 use std::fs::File;
 use std::io::{self, Read};
 use std::path::Path;
+use std::sync::atomic::{AtomicBool, Ordering};
 
 /// A house file, or the file of a table.
 pub struct Input {
@@ -39,8 +40,18 @@ pub fn shown(path: &OsStr) -> String {
     }
 }
 
+/// Whether standard input was read.
+static TAKEN: AtomicBool = AtomicBool::new(false);
+
 /// All bytes of a file, or of standard input. Of one that is far too long, only more than anything takes.
 pub fn bytes(path: &OsStr) -> Result<Vec<u8>, Failure> {
+    if path == "-" && TAKEN.swap(true, Ordering::Relaxed) {
+        let advice = "give the path of one of the two";
+        return Err(Failure::said(
+            "standard input is one file, and is given twice",
+            advice,
+        ));
+    }
     let mut bytes = Vec::new();
     let most = MOST_BYTES as u64 + 16;
     let read = if path == "-" {

@@ -8,7 +8,7 @@ use std::io::{self, Read};
 use std::os::unix::fs::FileExt;
 use std::os::unix::process::CommandExt;
 use std::path::PathBuf;
-use std::process::{Command, Stdio};
+use std::process::{Child, Command, Stdio};
 
 extern "C" {
     fn ptrace(request: c_int, pid: c_int, address: usize, data: usize) -> c_long;
@@ -78,24 +78,14 @@ pub struct Ended {
 
 /// Runs the program, and asks at each stop what to do.
 pub fn traced(command: &mut Command, mut at: impl FnMut(&Stop) -> Then) -> io::Result<Ended> {
-    command
-        .stdin(Stdio::null())
-        .stdout(Stdio::piped())
-        .stderr(Stdio::piped());
-    // SAFETY: between fork and exec one call of the system's is made.
-    unsafe {
-        command.pre_exec(|| match ptrace(TRACE_ME, 0, 0, 0) {
-            0 => Ok(()),
-            _ => Err(io::Error::last_os_error()),
-        })
+    let mut child = start(command)?;
+    let mut traced = Traced {
+        pid: child.id() as c_int,
+        stops: 0,
+        failing: None,
+        killed: false,
     };
-    let mut child = command.spawn()?;
-    let pid = child.id() as c_int;
-    let mut number = 0;
-    let mut before = true;
-    let mut failing = None;
-    let mut killed = false;
-    let mut signal = 0;
+    let pid = traced.pid;
     let mut status = wait(pid)?;
     // It stands at its first instruction.
     // SAFETY: a child of ours that stands.
@@ -103,42 +93,14 @@ pub fn traced(command: &mut Command, mut at: impl FnMut(&Stop) -> Then) -> io::R
     while status & 0xff == 0x7f {
         let why = (status >> 8) & 0xff;
         if why == AT_CALL {
-            number += 1;
-            let mut registers = registers(pid)?;
-            if !before {
-                if let Some(error) = failing.take() {
-                    registers[RESULT] = (-i64::from(error)) as u64;
-                    set_registers(pid, &registers)?;
-                }
-            }
-            let stop = Stop {
-                number,
-                before,
-                call: registers[CALL],
-                arguments: ARGUMENTS.map(|place| registers[place]),
-                pid,
-            };
-            match at(&stop) {
-                Then::GoOn => {}
-                Then::Kill => {
-                    killed = true;
-                    // SAFETY: a child of ours.
-                    unsafe { kill(pid, KILL) };
-                }
-                Then::Fail(error) => {
-                    assert!(before, "a call fails before it is done");
-                    failing = Some(error);
-                    registers[CALL] = u64::MAX;
-                    set_registers(pid, &registers)?;
-                }
-            }
-            before = !before;
-        } else if why != TRAP {
-            signal = why;
+            traced.at_call(&mut at)?;
         }
+        let signal = match why {
+            AT_CALL | TRAP => 0,
+            signal => signal as usize,
+        };
         // SAFETY: a child of ours that stands, or was killed, which is no harm.
-        unsafe { ptrace(TO_NEXT_CALL, pid, 0, signal as usize) };
-        signal = 0;
+        unsafe { ptrace(TO_NEXT_CALL, pid, 0, signal) };
         status = wait(pid)?;
     }
     let (mut out, mut err) = (String::new(), String::new());
@@ -152,10 +114,68 @@ pub fn traced(command: &mut Command, mut at: impl FnMut(&Stop) -> Then) -> io::R
         .map(|mut from| from.read_to_string(&mut err));
     Ok(Ended {
         status: (status & 0x7f == 0).then_some((status >> 8) & 0xff),
-        killed,
+        killed: traced.killed,
         out,
         err,
     })
+}
+
+/// It stops at its first instruction.
+fn start(command: &mut Command) -> io::Result<Child> {
+    command
+        .stdin(Stdio::null())
+        .stdout(Stdio::piped())
+        .stderr(Stdio::piped());
+    // SAFETY: between fork and exec one call of the system's is made.
+    unsafe {
+        command.pre_exec(|| match ptrace(TRACE_ME, 0, 0, 0) {
+            0 => Ok(()),
+            _ => Err(io::Error::last_os_error()),
+        })
+    };
+    command.spawn()
+}
+
+struct Traced {
+    pid: c_int,
+    stops: usize,
+    /// The error of the call that is under way.
+    failing: Option<i32>,
+    killed: bool,
+}
+
+impl Traced {
+    fn at_call(&mut self, at: &mut impl FnMut(&Stop) -> Then) -> io::Result<()> {
+        self.stops += 1;
+        let before = self.stops % 2 == 1;
+        let mut registers = registers(self.pid)?;
+        if let Some(error) = self.failing.take() {
+            registers[RESULT] = (-i64::from(error)) as u64;
+            set_registers(self.pid, &registers)?;
+        }
+        let stop = Stop {
+            number: self.stops,
+            before,
+            call: registers[CALL],
+            arguments: ARGUMENTS.map(|place| registers[place]),
+            pid: self.pid,
+        };
+        match at(&stop) {
+            Then::GoOn => {}
+            Then::Kill => {
+                self.killed = true;
+                // SAFETY: a child of ours.
+                unsafe { kill(self.pid, KILL) };
+            }
+            Then::Fail(error) => {
+                assert!(before, "a call fails before it is done");
+                self.failing = Some(error);
+                registers[CALL] = u64::MAX;
+                set_registers(self.pid, &registers)?;
+            }
+        }
+        Ok(())
+    }
 }
 
 fn wait(pid: c_int) -> io::Result<c_int> {

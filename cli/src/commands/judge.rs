@@ -4,12 +4,11 @@ use super::{Answer, Command, View, FORCE, GOOD, LEAK, NAMES, REFUSED};
 use crate::arguments::{Arguments, Choice};
 use crate::failure::Failure;
 use crate::input::{self, Content, Input};
+use crate::output::{self, Manner};
 use crate::picture;
-use crate::replace;
 use crate::report;
 use crate::verdict::{self, json, text, Ruling, Verdict};
 use std::ffi::{OsStr, OsString};
-use std::path::Path;
 
 pub const COMMAND: Command = Command {
     name: "judge",
@@ -49,7 +48,7 @@ fn run(arguments: &Arguments, view: &View) -> Result<Answer, Failure> {
     let input = input::read(&arguments.plain[0], arguments.value("--names"))?;
     let content = match &input.content {
         Ok(content) => content,
-        Err(refusal) => return Ok(super::show::refused(&input, *refusal, view)),
+        Err(refusal) => return Ok(super::refused(&input, *refusal, view)),
     };
     let verdicts: Vec<Verdict> = asked(&arguments.plain[1..], content)?
         .into_iter()
@@ -139,7 +138,8 @@ fn write(path: &OsStr, content: &[u8], force: bool) -> Result<Vec<String>, Failu
             advice,
         ));
     }
-    let mut notes = replace::create(Path::new(path), force, true, content)?;
+    let manner = Manner { force, wait: true };
+    let mut notes = output::write(path, content, &manner)?;
     notes.push(format!("wrote {}", input::shown(path)));
     Ok(notes)
 }

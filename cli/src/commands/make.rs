@@ -5,11 +5,10 @@ use crate::arguments::{Arguments, Choice};
 use crate::count::count;
 use crate::failure::Failure;
 use crate::input;
+use crate::output::{self, Manner};
 use crate::refused::BadFile;
-use crate::replace;
 use crate::table::Table;
 use std::ffi::OsStr;
-use std::path::Path;
 
 pub const COMMAND: Command = Command {
     name: "make",
@@ -35,7 +34,7 @@ pub const COMMAND: Command = Command {
 
 fn run(arguments: &Arguments, view: &View) -> Result<Answer, Failure> {
     let path = &arguments.plain[0];
-    let output = arguments.value("--output").ok_or_else(|| {
+    let output_path = arguments.value("--output").ok_or_else(|| {
         let advice = "write tugcaphi make TABLE -o FILE";
         Failure::said("make: where to write the file is not said", advice)
     })?;
@@ -44,13 +43,15 @@ fn run(arguments: &Arguments, view: &View) -> Result<Answer, Failure> {
     if refusal != 0 {
         return Ok(refused(&file, refusal, path, view));
     }
-    if output == "-" {
+    if output_path == "-" {
         return to_standard_output(file, arguments.has("--json"), view);
     }
-    let force = arguments.has("--force");
-    let wait = !arguments.has("--no-wait");
-    let notes = replace::create(Path::new(output), force, wait, &file)?;
-    let mut answer = told(&table, file.len(), output);
+    let manner = Manner {
+        force: arguments.has("--force"),
+        wait: !arguments.has("--no-wait"),
+    };
+    let notes = output::write(output_path, &file, &manner)?;
+    let mut answer = told(&table, file.len(), output_path);
     answer.notes = notes;
     Ok(answer)
 }

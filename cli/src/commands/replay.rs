@@ -31,15 +31,11 @@ pub const COMMAND: Command = Command {
 
 fn run(arguments: &Arguments, view: &View) -> Result<Answer, Failure> {
     let (path, trace) = (&arguments.plain[0], &arguments.plain[1]);
-    if path == "-" && trace == "-" {
-        let advice = "give the path of one of the two";
-        return Err(Failure::said("replay: standard input is one file", advice));
-    }
     let input = input::read(path, arguments.value("--names"))?;
     let trace = trace::read(input::bytes(trace)?, &input::shown(trace))?;
     let content = match &input.content {
         Ok(content) => content,
-        Err(refusal) => return Ok(super::show::refused(&input, *refusal, view)),
+        Err(refusal) => return Ok(super::refused(&input, *refusal, view)),
     };
     let rights: Vec<u8> = match arguments.plain.get(2) {
         Some(right) => vec![content.words.right_number(right)?],

@@ -20,8 +20,9 @@ pub const COMMAND: Command = Command {
     usage: "FILE RULE NAME..",
     summary: "one rule run on a house file, in place",
     about: "Rule and names are given by number, or by word with --names. DONE is printed when the new file is on the\n\
-            device; at every moment the file is the old one or the new one. A refused run changes nothing.\n\
-            A killed run leaves nothing that blocks the next one.",
+            device; at every moment the file is the old one or the new one. A refused run changes nothing, a killed\n\
+            one leaves nothing that blocks the next. The file is written first, its log second; where a run is killed\n\
+            in between, the next run on the file, with --log or without, adds the step and says so.",
     least: 2,
     most: 2 + BLANKS,
     options: &[

@@ -1,6 +1,6 @@
 //! `show`: a file or table as text, and its matrix as a grid.
 
-use super::{Answer, Command, View, GOOD, NAMES, REFUSED};
+use super::{refused, Answer, Command, View, GOOD, NAMES};
 use crate::arguments::Arguments;
 use crate::failure::Failure;
 use crate::grid;
@@ -8,7 +8,6 @@ use crate::house::{Condition, Operation};
 use crate::input::{self, Content, Input};
 use crate::json::Json;
 use crate::labels;
-use crate::refused::BadFile;
 use crate::table::syntax::Verb;
 use crate::table::writer;
 
@@ -35,19 +34,6 @@ fn run(arguments: &Arguments, view: &View) -> Result<Answer, Failure> {
             ..Answer::default()
         }),
         Err(refusal) => Ok(refused(&input, *refusal, view)),
-    }
-}
-
-/// The answer of a command to a file that the proved reader refuses.
-pub fn refused(input: &Input, refusal: u8, view: &View) -> Answer {
-    let bad = BadFile::new(&input.file, refusal);
-    let mut json = vec![("input", input.json()), ("answer", "refused".into())];
-    json.extend(bad.json());
-    Answer {
-        status: REFUSED,
-        text: bad.lines(&input.path, view.style).into_bytes(),
-        json,
-        ..Answer::default()
     }
 }
 

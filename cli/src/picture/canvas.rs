@@ -148,6 +148,8 @@ pub fn escaped(text: &str) -> String {
             '>' => escaped.push_str("&gt;"),
             '"' => escaped.push_str("&quot;"),
             '\'' => escaped.push_str("&#39;"),
+            // XML has no such characters, not even escaped.
+            _ if character.is_control() => escaped.push('\u{FFFD}'),
             _ => escaped.push(character),
         }
     }

@@ -1,8 +1,8 @@
 //! The change itself, in the order that the head of `replace` tells.
 
 use super::liken::{liken, liken_roughly, Lost};
-use super::log::{sync_folder, Log};
-use super::place::{why, Place};
+use super::log::Log;
+use super::place::{sync_folder, why, Place};
 use super::record::Record;
 use super::Problem;
 use std::ffi::{c_char, c_int, CString};
@@ -22,38 +22,39 @@ pub struct Change<'a> {
 
 impl Change<'_> {
     /// The notes say what of the old file could not be kept.
-    pub fn make(&self, mut logged: Option<(Log, [u8; 5])>) -> Result<Vec<String>, Problem> {
+    pub fn make(&self, logged: Option<(Log, [u8; 5])>) -> Result<Vec<String>, Problem> {
         let place = self.place;
         // Held until all is done: it is the file by then.
-        let new = place.make_new(0o600).inspect_err(|_| forget(&logged))?;
+        let new = place.make_new(0o600)?;
         let mut notes = self.prepare(&new, &logged).inspect_err(|_| {
             let _ = fs::remove_file(&place.record);
             let _ = fs::remove_file(&place.new);
-            forget(&logged);
         })?;
         // The rule was run. Whatever fails from here on is said, and the next run mends it.
-        let later = match &logged {
-            Some((log, _)) => format!(
-                "; its step is not in {} yet, and the next run on this file adds it",
-                log.given.display()
-            ),
-            None => String::new(),
+        let synced = sync_folder(&place.path);
+        let Some((mut log, step)) = logged else {
+            let text = "the file was changed, but is not certain to be on the device";
+            return match synced {
+                Ok(()) => Ok(notes),
+                Err(wrong) => Err(place.failed(text, &wrong)),
+            };
         };
-        sync_folder(&place.path).map_err(|wrong| {
-            place.failed(
-                format!("the file was changed, but is not certain to be on the device{later}"),
-                &wrong,
-            )
-        })?;
-        if let Some((log, step)) = &mut logged {
-            log.append(*step)
-                .map_err(|wrong| place.failed(format!("the file was changed{later}"), &wrong))?;
-            let removed = fs::remove_file(&place.record).and_then(|()| sync_folder(&place.path));
-            notes.extend(
-                removed
-                    .err()
-                    .map(|wrong| format!("{} is left: {}.", place.record.display(), why(&wrong))),
+        log.due();
+        synced.and_then(|()| log.append(step)).map_err(|wrong| {
+            let log = log.given.display();
+            let text = format!(
+                "the file was changed, but it or its step in {log} is not certain to be on the \
+                 device; the next run on this file sees to the step"
             );
+            place.failed(text, &wrong)
+        })?;
+        let removed = fs::remove_file(&place.record).and_then(|()| sync_folder(&place.path));
+        if let Err(wrong) = removed {
+            notes.push(format!(
+                "{} is left: {}.",
+                place.record.display(),
+                why(&wrong)
+            ));
         }
         Ok(notes)
     }
@@ -129,12 +130,6 @@ impl Change<'_> {
     }
 }
 
-fn forget(logged: &Option<(Log, [u8; 5])>) {
-    if let Some((log, _)) = logged {
-        log.forget();
-    }
-}
-
 /// A file where none is, under the lock.
 pub fn make(place: &Place, content: &[u8]) -> Result<(), Problem> {
     let new = place.make_new(0o666)?;
@@ -158,12 +153,15 @@ pub fn make(place: &Place, content: &[u8]) -> Result<(), Problem> {
 
 /// The content, on the device when this comes back.
 fn fill(mut file: &File, content: &[u8]) -> io::Result<()> {
-    // A limit on the size of files is to be an error like any other, and not the end of the
-    // process. SAFETY: signal 25 is the one of that limit, 1 has it ignored.
-    unsafe { signal(25, 1) };
+    // A limit on the size of files is an error like any other, and not the end of the process.
+    // SAFETY: two numbers.
+    unsafe { signal(LIMIT, IGNORED) };
     file.write_all(content)?;
     file.sync_all()
 }
+
+const LIMIT: c_int = 25;
+const IGNORED: usize = 1;
 
 extern "C" {
     fn signal(number: c_int, handler: usize) -> usize;
@@ -176,10 +174,11 @@ extern "C" {
     ) -> c_int;
 }
 
-/// Names of paths that are relative to the folder the process is in; a rename that replaces
-/// nothing; a file system that cannot do this.
+/// Paths are relative to the folder that the process is in.
 const HERE: c_int = -100;
+/// The rename replaces nothing.
 const NO_REPLACE: u32 = 1;
+/// What a file system says that cannot do this.
 const NOT_KNOWN: [i32; 2] = [22, 38];
 
 /// Gives a new file its name, where no file has it.

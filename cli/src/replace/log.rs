@@ -2,7 +2,7 @@
 
 use super::hold::{same, NO_FOLLOW, NO_WAIT};
 use super::liken::liken_roughly;
-use super::place::{resolve, sort, why, Resolved};
+use super::place::{resolve, sort, sync_folder, why, Resolved};
 use super::Problem;
 use std::ffi::c_int;
 use std::fs::{self, File, Metadata, OpenOptions};
@@ -28,7 +28,8 @@ pub struct Log {
     pub path: PathBuf,
     pub before: u64,
     file: File,
-    made: bool,
+    /// It was made for a step that has not come to be done.
+    vain: bool,
 }
 
 fn options() -> OpenOptions {
@@ -41,88 +42,92 @@ fn options() -> OpenOptions {
 }
 
 impl Log {
-    /// The log, opened, with room for a step; made where it is not there, with the group and mode
-    /// of the file it goes with.
+    /// The log, with room for a step; made where it is not there, with the group and mode of the
+    /// file it goes with.
     pub fn open(given: &Path, with: &Metadata) -> Result<Log, Problem> {
         let about = |text: String| Problem::about(given, text);
-        let Resolved { path, there } = resolve(given)?;
-        if let Some(there) = &there {
-            if same(there, with) {
-                return Err(about(
-                    "the log must be another file than the one that the rule is run on.".into(),
-                ));
-            }
-            if !there.is_file() {
-                return Err(about(format!("{}; the log must be a file.", sort(there))));
-            }
-        }
-        let (file, made) = match options().open(&path) {
-            Ok(file) => (file, false),
-            Err(wrong) if wrong.kind() == ErrorKind::NotFound => {
-                let made = options().create_new(true).mode(0o600).open(&path);
-                let file = made
-                    .map_err(|wrong| about(format!("the log cannot be made: {}.", why(&wrong))))?;
-                liken_roughly(&file, with, with.mode());
-                (file, true)
-            }
-            Err(wrong) => {
-                return Err(about(format!(
-                    "the log cannot be written: {}.",
-                    why(&wrong)
-                )))
-            }
-        };
-        let before = file.metadata().map_err(|wrong| about(why(&wrong)))?.len();
-        let log = Log {
+        let path = find(given, with)?;
+        let cannot = |wrong| about(format!("the log cannot be written: {}.", why(&wrong)));
+        let (file, vain) = open_or_make(&path, with).map_err(cannot)?;
+        let mut log = Log {
             given: given.to_path_buf(),
             path,
-            before,
+            before: 0,
             file,
-            made,
+            vain,
         };
-        if !before.is_multiple_of(STEP) {
-            return Err(about(format!(
-                "{before} bytes are no whole number of steps, 5 bytes each, so this is no log; name another with --log."
-            )));
+        log.before = log.reserve().map_err(cannot)?;
+        if log.before.is_multiple_of(STEP) {
+            return Ok(log);
         }
-        if let Err(wrong) = log.reserve() {
-            log.forget();
-            return Err(about(format!("no room for a step: {}.", why(&wrong))));
-        }
-        Ok(log)
+        Err(about(format!(
+            "{} bytes are no whole number of steps, 5 bytes each, so this is no log; \
+             name another with --log.",
+            log.before
+        )))
     }
 
-    fn reserve(&self) -> io::Result<()> {
-        let Ok(offset) = i64::try_from(self.before) else {
-            return Ok(());
-        };
+    /// Room for a step, so that a full device is told before the file is changed. Its length now.
+    fn reserve(&self) -> io::Result<u64> {
+        let before = self.file.metadata()?.len();
+        if self.vain {
+            // It stays where the power fails between the file's change and the step.
+            sync_folder(&self.path)?;
+        }
+        let offset = i64::try_from(before).unwrap_or(0);
         // SAFETY: an open file and numbers.
         let done = unsafe { fallocate(self.file.as_raw_fd(), KEEP_SIZE, offset, STEP as i64) };
         let wrong = io::Error::last_os_error();
-        if done != 0
-            && wrong
-                .raw_os_error()
-                .is_some_and(|number| NO_ROOM.contains(&number))
-        {
-            return Err(wrong);
+        let full = wrong
+            .raw_os_error()
+            .is_some_and(|number| NO_ROOM.contains(&number));
+        match done != 0 && full {
+            true => Err(wrong),
+            false => Ok(before),
         }
-        Ok(())
     }
 
-    /// Removes a log that was made for a step that is not to come.
-    pub fn forget(&self) {
-        if self.made {
-            let _ = fs::remove_file(&self.path);
-        }
+    /// The file was changed: the step belongs here.
+    pub fn due(&mut self) {
+        self.vain = false;
     }
 
     /// Adds the step, on the device when this comes back.
     pub fn append(&mut self, step: [u8; 5]) -> io::Result<()> {
-        add(&mut self.file, &step)?;
-        if self.made {
-            sync_folder(&self.path)?;
+        add(&mut self.file, &step)
+    }
+}
+
+impl Drop for Log {
+    fn drop(&mut self) {
+        if self.vain {
+            let _ = fs::remove_file(&self.path);
         }
-        Ok(())
+    }
+}
+
+/// Its path without links. It is a file, or not there yet, and another than the one it goes with.
+fn find(given: &Path, with: &Metadata) -> Result<PathBuf, Problem> {
+    let Resolved { path, there } = resolve(given)?;
+    let wrong = match there {
+        Some(there) if same(&there, with) => {
+            "the log must be another file than the one that the rule is run on.".to_string()
+        }
+        Some(there) if !there.is_file() => format!("{}; the log must be a file.", sort(&there)),
+        _ => return Ok(path),
+    };
+    Err(Problem::about(given, wrong))
+}
+
+/// And whether it was made.
+fn open_or_make(path: &Path, with: &Metadata) -> io::Result<(File, bool)> {
+    match options().open(path) {
+        Err(wrong) if wrong.kind() == ErrorKind::NotFound => {
+            let file = options().create_new(true).mode(0o600).open(path)?;
+            liken_roughly(&file, with, with.mode());
+            Ok((file, true))
+        }
+        opened => Ok((opened?, false)),
     }
 }
 
@@ -135,10 +140,6 @@ fn add(file: &mut File, bytes: &[u8]) -> io::Result<()> {
         return Err(wrong);
     }
     file.sync_all()
-}
-
-pub fn sync_folder(path: &Path) -> io::Result<()> {
-    File::open(path.parent().unwrap_or(Path::new("/")))?.sync_all()
 }
 
 /// What became of a step that a stopped run may not have added.
@@ -167,10 +168,8 @@ pub fn mend(path: &Path, before: u64, step: [u8; 5]) -> io::Result<Mended> {
     }
     if found.len() == step.len() {
         file.sync_all()?;
-        sync_folder(path)?;
         return Ok(Mended::There);
     }
     add(&mut file, &step[found.len()..])?;
-    sync_folder(path)?;
     Ok(Mended::Added)
 }

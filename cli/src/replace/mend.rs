@@ -2,8 +2,8 @@
 //! changed the file exactly if its record's new content is the file's.
 
 use super::hold::{NO_FOLLOW, NO_WAIT};
-use super::log::{self, sync_folder, Mended};
-use super::place::{Place, MOST};
+use super::log::{self, Mended};
+use super::place::{sync_folder, Place, MOST};
 use super::record::Record;
 use super::{Options, Problem};
 use std::fs::{self, File, OpenOptions};
@@ -61,18 +61,22 @@ fn left(place: &Place) -> io::Result<Option<Left>> {
         record: None,
         hidden: false,
     };
-    let opened = OpenOptions::new()
-        .read(true)
-        .custom_flags(NO_FOLLOW | NO_WAIT)
-        .open(&place.record);
-    match opened {
-        Ok(file) if there.is_file() => {
-            let mut bytes = Vec::new();
-            file.take(4 * MOST).read_to_end(&mut bytes)?;
-            left.record = Record::read(&bytes);
+    // What is no file was put there by somebody, and is removed with the rest.
+    if there.is_file() {
+        let opened = OpenOptions::new()
+            .read(true)
+            .custom_flags(NO_FOLLOW | NO_WAIT)
+            .open(&place.record);
+        match opened {
+            Err(wrong) if wrong.kind() == ErrorKind::PermissionDenied => {
+                left.hidden = there.len() > 0;
+            }
+            opened => {
+                let mut bytes = Vec::new();
+                opened?.take(4 * MOST).read_to_end(&mut bytes)?;
+                left.record = Record::read(&bytes);
+            }
         }
-        Err(wrong) if wrong.kind() == ErrorKind::PermissionDenied => left.hidden = there.len() > 0,
-        opened => drop(opened?),
     }
     Ok(Some(left))
 }
@@ -122,8 +126,9 @@ fn finish(place: &Place, record: &Record) -> Result<Option<String>, Problem> {
         Ok(Mended::Changed) => Ok(Some(lacking(record, REWRITTEN))),
         Err(wrong) => {
             let text = format!(
-                "a run was stopped before its step was in {log}, and the step {step} cannot be added now. See to it that the \
-                 log can be written; or remove {}, and the log will lack the step",
+                "a run was stopped before its step was in {log}, and the step {step} cannot be \
+                 added now. See to it that the log can be written; or remove {}, and the log will \
+                 lack the step",
                 place.record.display()
             );
             Err(place.failed(text, &wrong))

@@ -73,6 +73,11 @@ pub fn sort(there: &Metadata) -> &'static str {
     }
 }
 
+/// The names in a file's folder, on the device when this comes back.
+pub fn sync_folder(path: &Path) -> io::Result<()> {
+    File::open(path.parent().unwrap_or(Path::new("/")))?.sync_all()
+}
+
 pub struct Place<'a> {
     /// As the user named it, for messages.
     given: &'a Path,
@@ -197,7 +202,9 @@ impl Place<'_> {
 
     fn not_held(&self, not: NotHeld) -> Problem {
         match not {
-            NotHeld::Taken => self.about("another run is at work on this file; without --no-wait this one waits for its end."),
+            NotHeld::Taken => self.about(
+                "another run is at work on this file; without --no-wait this one waits for its end.",
+            ),
             NotHeld::Failed(wrong) => self.failed("it cannot be locked", &wrong),
         }
     }
@@ -225,14 +232,20 @@ impl Place<'_> {
         };
         Lock::take(&self.lock, wait, mode, like).map_err(|not| match not {
             NotHeld::Taken => self.not_held(not),
-            NotHeld::Failed(wrong) => {
-                let text = format!(
-                    "the lock file {} cannot be made, so nothing was changed; you need a folder in which you may make files",
-                    self.lock.display()
-                );
-                self.failed(text, &wrong)
-            }
+            NotHeld::Failed(wrong) => self.no_lock(&wrong),
         })
+    }
+
+    fn no_lock(&self, wrong: &io::Error) -> Problem {
+        let lock = self.lock.display();
+        let advice = match wrong.kind() {
+            ErrorKind::PermissionDenied | ErrorKind::ReadOnlyFilesystem => {
+                "; you need a folder in which you may make files"
+            }
+            _ => "",
+        };
+        let text = format!("its lock file {lock} cannot be made, so nothing was changed{advice}");
+        self.failed(text, wrong)
     }
 
     /// Removes the new content that a stopped run left. A run at work holds its own.

@@ -25,6 +25,7 @@ extern "C" {
     ) -> c_int;
     fn getxattr(path: *const c_char, name: *const c_char, value: *mut c_void, size: usize)
         -> isize;
+    fn removexattr(path: *const c_char, name: *const c_char) -> c_int;
 }
 
 /// Modes stay as they are, whatever the mask; the log gets the file's.
@@ -120,10 +121,12 @@ fn attributes(scene: &Scene, group: &mut Group) -> bool {
     group.input(given && answer.done() && none, || {
         format!("a folder's list: {answer:?}")
     });
-    let _ = Command::new("setfacl")
-        .arg("-k")
-        .arg(&scene.folder)
-        .status();
+    let (folder, name) = (
+        c_path(&scene.folder),
+        CString::new(DEFAULT).expect("a name"),
+    );
+    // SAFETY: strings that end in a zero.
+    unsafe { removexattr(folder.as_ptr(), name.as_ptr()) };
     true
 }
 

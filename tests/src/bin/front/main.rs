@@ -1,5 +1,5 @@
 //! The front program `tugcaphi`: transcripts of every command, exit status and
-//! mistake in a table, random tables there and back, the places of refusals,
+//! mistake in a table, random tables there and back, damaged texts, the places of refusals,
 //! steps in words against a replay, pictures, pages and answers for programs,
 //! and the examples in the docs. Arguments: the seed, the number of random
 //! tables. The executable is `../target/cli/release/tugcaphi`, or TUGCAPHI names
@@ -9,6 +9,7 @@ mod back;
 mod blocks;
 mod coverage;
 mod execute;
+mod garbage;
 mod json;
 mod pages;
 mod places;
@@ -34,6 +35,7 @@ fn main() {
     coverage::run(&mut report, &told);
     blocks::run(&mut report);
     tables::run(&mut report, seed, arguments.number.unwrap_or(TABLES));
+    garbage::run(&mut report, seed);
     back::run(&mut report, seed);
     places::run(&mut report, seed);
     stories::run(&mut report, seed);

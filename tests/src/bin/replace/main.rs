@@ -6,12 +6,14 @@ use reference::random::Random;
 use reference::report::{Arguments, Group, Report};
 use reference::scene::{after, said, says_done, step, table, Said, Scene, FILE, LOCK, LOG};
 use std::fs::{self, File};
+use std::io::{BufRead, BufReader};
 use std::os::unix::fs::symlink;
-use std::path::Path;
 use std::process::{Command, Stdio};
 use std::sync::atomic::{AtomicBool, Ordering};
 use std::thread;
 use std::time::{Duration, Instant};
+
+mod room;
 
 fn spin(time: Duration) {
     let start = Instant::now();
@@ -158,6 +160,28 @@ fn remove_lock(scene: &Scene) {
     thread::sleep(Duration::from_micros(300));
 }
 
+/// A run waits until the lock is released, and says so before.
+fn waits(scene: &Scene, group: &mut Group, release: &dyn Fn()) {
+    let mut child = scene
+        .run(0, &[])
+        .stdout(Stdio::piped())
+        .stderr(Stdio::piped())
+        .spawn()
+        .expect("the program can be started");
+    let mut note = String::new();
+    let mut err = BufReader::new(child.stderr.take().expect("a pipe"));
+    let read = err.read_line(&mut note);
+    let said = read.is_ok() && note.contains("this one waits for its end");
+    group.demand(said, || format!("it said: {note:?}"));
+    let waiting = child.try_wait().is_ok_and(|ended| ended.is_none());
+    group.demand(waiting, || "it did not wait".to_string());
+    release();
+    let answer = Said::of(child.wait_with_output().expect("a child of ours"));
+    let wanted = after(&table(), 0);
+    scene.stands(group, &wanted, b"", "after waiting", &answer);
+    group.demand(answer.done(), || format!("after waiting: {answer:?}"));
+}
+
 /// The lock is held by us: a run waits for it, or says that it does not.
 fn held(scene: &Scene, group: &mut Group) {
     scene.reset(&table());
@@ -166,21 +190,7 @@ fn held(scene: &Scene, group: &mut Group) {
     let answer = said(&mut scene.run(0, &["--no-wait"]));
     let good = answer.stopped("another run is at work") && scene.read(FILE) == table();
     group.input(good, || format!("--no-wait: {answer:?}"));
-    let waits = |group: &mut Group, release: &dyn Fn()| {
-        thread::scope(|scope| {
-            let run = scope.spawn(|| said(&mut scene.run(0, &[])));
-            thread::sleep(Duration::from_millis(1_500));
-            group.demand(!run.is_finished(), || "it did not wait".to_string());
-            release();
-            let answer = run.join().expect("a thread of ours");
-            let told = answer.err.contains("this one waits for its end");
-            group.demand(told, || format!("it did not say that it waits: {answer:?}"));
-            let wanted = after(&table(), 0);
-            scene.stands(group, &wanted, b"", "after waiting", &answer);
-            group.demand(answer.done(), || format!("after waiting: {answer:?}"));
-        });
-    };
-    waits(group, &|| lock.unlock().expect("our lock"));
+    waits(scene, group, &|| lock.unlock().expect("our lock"));
     // The lock file of a process that was killed is held by nobody.
     scene.reset(&table());
     scene.write(LOCK, b"");
@@ -193,93 +203,7 @@ fn held(scene: &Scene, group: &mut Group) {
     let answer = said(&mut scene.run(0, &["--no-wait"]));
     let good = answer.stopped("another run is at work") && scene.read(FILE) == table();
     group.input(good, || format!("--no-wait, the file held: {answer:?}"));
-    waits(group, &|| file.unlock().expect("our lock"));
-}
-
-/// A limit on the size of files: too little for the file, for the log.
-fn size_limit(scene: &Scene, group: &mut Group) {
-    let limited = |blocks: &str, words: &str| {
-        let line = format!("ulimit -c 0 -f {blocks}; exec \"$0\" run {FILE} 0 0 0 {words}");
-        let mut command = Command::new("bash");
-        command.args(["-c", &line]).arg(&scene.program);
-        said(command.current_dir(&scene.folder))
-    };
-    scene.reset(&table());
-    let answer = limited("1", "");
-    group.demand(answer.stopped("File too large"), || format!("{answer:?}"));
-    scene.stands(group, &table(), b"", "limit for the file", &answer);
-    // A block has 1,024 bytes; one byte of the step has room.
-    let mut log = step(9).repeat(819);
-    scene.write(LOG, &log);
-    let answer = limited("4", &format!("--log {LOG}"));
-    let told = answer.stopped("the next run on this file adds it");
-    let changed = scene.read(FILE) == after(&table(), 0) && scene.read(LOG) == log;
-    group.input(told && changed, || format!("limit for the log: {answer:?}"));
-    let answer = said(&mut scene.run(1, &[]));
-    log.extend(step(0));
-    let file = after(&after(&table(), 0), 1);
-    group.demand(answer.err.contains("is there now"), || {
-        format!("{answer:?}")
-    });
-    scene.stands(group, &file, &log, "behind the limit", &answer);
-}
-
-/// A file system of few pages in a name space of its own, all of them taken:
-/// with the file there, and with the log there and the file with room.
-const FULL: &str = r#"
-set -e
-mount -t tmpfs -o size=12k none "$2"
-cp library "$2/library"
-cat /dev/zero > "$2/filler" 2> /dev/null || true
-status=0
-(cd "$2" && "$1" run library 0 0 0) || status=$?
-test $status = 3
-cmp library "$2/library"
-test "$(ls -A "$2")" = "filler
-library"
-: > "$2/log"
-status=0
-"$1" run library 0 0 0 --log "$2/log" || status=$?
-test $status = 3
-cmp library "$2/library"
-test "$(ls -A "$2")" = "filler
-library
-log"
-test ! -s "$2/log"
-rm "$2/filler"
-"$1" run library 0 0 0 --log "$2/log"
-(cd "$2" && "$1" run library 0 0 0)
-cmp library "$2/library"
-test "$(wc -c < "$2/log")" = 5
-test "$(ls -A "$2")" = "library
-log"
-"#;
-
-fn in_own_space(script: &str, scene: &Scene, mount: &Path) -> Command {
-    let mut command = Command::new("unshare");
-    command
-        .args(["-rm", "bash", "-c", script, "bash"])
-        .arg(&scene.program)
-        .arg(mount)
-        .current_dir(&scene.folder);
-    command
-}
-
-fn full_disk(scene: &Scene, group: &mut Group) {
-    scene.reset(&table());
-    let mount = Scene::new("disk");
-    let answer = said(&mut in_own_space(FULL, scene, &mount.folder));
-    let told = answer.err.matches("No space left on device").count();
-    group.input(answer.status == Some(0) && told == 2, || {
-        format!("{answer:?}")
-    });
-    scene.stands(group, &after(&table(), 0), b"", "full disk", &answer);
-}
-
-fn can_mount(scene: &Scene) -> bool {
-    let script = "mount -t tmpfs -o size=12k none \"$2\"";
-    let output = in_own_space(script, scene, &scene.folder).output();
-    output.is_ok_and(|output| output.status.success())
+    waits(scene, group, &|| file.unlock().expect("our lock"));
 }
 
 /// What cannot be replaced is refused with a sentence, and left as it is.
@@ -387,10 +311,12 @@ fn groups(scene: &Scene, report: &mut Report, random: &mut Random) {
     });
     report.group("the lock is held", 4, |group| held(scene, group));
     report.group("no room: a limit on the size", 3, |group| {
-        size_limit(scene, group)
+        room::size_limit(scene, group)
     });
-    if can_mount(scene) {
-        report.group("no room: a full disk", 2, |group| full_disk(scene, group));
+    if room::can_mount(scene) {
+        report.group("no room: a full disk", 2, |group| {
+            room::full_disk(scene, group)
+        });
     } else {
         println!("no room: a full disk: no file system may be mounted here, left out");
     }

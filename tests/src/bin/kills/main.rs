@@ -5,12 +5,12 @@
 //! its writings on the device. Argument: the seed, on which nothing depends.
 
 use reference::report::{Arguments, Group, Report};
-use reference::scene::{
-    after, said, says_done, step, table, Said, Scene, FILE, LOCK, LOG, NEW, RECORD,
-};
+use reference::scene::{after, said, says_done, step, table, Said, Scene, FILE, LOG};
 use reference::traced::{may_trace, traced, Ended, Stop, Then};
 use std::fs;
-use std::path::Path;
+
+mod make;
+mod order;
 
 /// The effects of the run that is stopped, of the next one, and of others.
 const STOPPED: usize = 700;
@@ -277,124 +277,6 @@ fn foreign_at_each(scene: &Scene, group: &mut Group) {
     });
 }
 
-/// What is written, and when it is on the device, in words.
-fn events(scene: &Scene, words: &[&str]) -> Vec<String> {
-    const WRITE: u64 = 1;
-    const SYNC: u64 = 74;
-    const UNLINK: u64 = 87;
-    let name = |path: &Path| match path.strip_prefix(&scene.folder) {
-        Ok(rest) if rest.as_os_str().is_empty() => "folder".to_string(),
-        Ok(rest) => rest.display().to_string(),
-        Err(_) => "output".to_string(),
-    };
-    let mut events = Vec::new();
-    let ended = traced(&mut scene.run(STOPPED, words), |stop| {
-        if !stop.before {
-            return Then::GoOn;
-        }
-        let [first, second, _] = stop.arguments;
-        match stop.call {
-            WRITE => events.push(format!("write {}", name(&stop.opened(first)))),
-            SYNC => events.push(format!("sync {}", name(&stop.opened(first)))),
-            UNLINK => events.push(format!("remove {}", name(Path::new(&stop.string(first))))),
-            RENAME => {
-                let (from, to) = (stop.string(first), stop.string(second));
-                let (from, to) = (name(Path::new(&from)), name(Path::new(&to)));
-                events.push(format!("rename {from} {to}"));
-            }
-            _ => {}
-        }
-        Then::GoOn
-    });
-    assert!(ended.is_ok_and(|ended| ended.status == Some(0)));
-    events.dedup();
-    events
-}
-
-fn order(scene: &Scene, group: &mut Group) {
-    let mut check = |words: &[&str], wanted: &[&str]| {
-        prepare(scene, Way::Log);
-        let found = events(scene, words);
-        group.input(found == wanted, || format!("{words:?}: {found:#?}"));
-    };
-    let new = &format!("write {NEW}");
-    let new_synced = &format!("sync {NEW}");
-    let renamed = &format!("rename {NEW} {FILE}");
-    let unlocked = &format!("remove {LOCK}");
-    let (synced, output) = ("sync folder", "write output");
-    check(&[], &[new, new_synced, renamed, synced, unlocked, output]);
-    let record = &format!("write {RECORD}");
-    let record_synced = &format!("sync {RECORD}");
-    let record_removed = &format!("remove {RECORD}");
-    check(
-        &["--log", LOG],
-        &[
-            new,
-            new_synced,
-            record,
-            record_synced,
-            synced,
-            renamed,
-            synced,
-            "write log",
-            "sync log",
-            record_removed,
-            synced,
-            unlocked,
-            output,
-        ],
-    );
-}
-
-/// A table in words, and the house file that `make` makes of it.
-const TEXT: &str = "table 1\nrights own read\nsubjects Ada Ben\nobjects shade\n\
-    cell (Ada, shade): own\nrule lend (a, b, f): if own in (a, f) enter read into (b, f)\n";
-
-/// `make` killed at each system call: no file, or the old one, or the new one.
-fn kill_make(scene: &Scene, group: &mut Group, over: bool) {
-    let words: &[&str] = match over {
-        true => &["make", "words", "-o", FILE, "--force"],
-        false => &["make", "words", "-o", FILE],
-    };
-    let set = || {
-        scene.clear();
-        scene.write("words", TEXT.as_bytes());
-        if over {
-            scene.write(FILE, &table());
-            scene.set_mode(FILE, 0o640);
-        }
-    };
-    set();
-    let answer = scene.call(words);
-    let made = scene.read(FILE);
-    group.input(answer.status == Some(0) && made.len() == 1_080, || {
-        format!("{answer:?}")
-    });
-    for number in 1.. {
-        set();
-        let before = scene.read(FILE);
-        let ended = traced(&mut scene.command(words), |stop| {
-            match stop.number == number {
-                true => Then::Kill,
-                false => Then::GoOn,
-            }
-        });
-        if !ended.expect("the program can be traced").killed {
-            break;
-        }
-        let there = scene.read(FILE);
-        let whole = there == made || (there == before && scene.path(FILE).exists() == over);
-        group.input(whole, || format!("stop {number}: {} bytes", there.len()));
-        let answer = scene.call(&["make", "words", "-o", FILE, "--force"]);
-        let names = scene.names();
-        let good = answer.status == Some(0)
-            && scene.read(FILE) == made
-            && (!over || scene.mode(FILE) == 0o640)
-            && names == [FILE, "words"];
-        group.demand(good, || format!("stop {number}: {names:?}, {answer:?}"));
-    }
-}
-
 fn main() {
     let _ = Arguments::read("kills");
     let mut report = Report::default();
@@ -413,15 +295,21 @@ fn groups(scene: &Scene, report: &mut Report) {
         let name = format!("killed at each system call: {way:?}");
         report.group(&name, 100, |group| kill_at_each(scene, group, way));
     }
-    for (way, error) in [(Way::Log, IO_ERROR), (Way::Mending, NO_SPACE)] {
+    for (way, error) in [
+        (Way::Log, IO_ERROR),
+        (Way::NewLog, NO_SPACE),
+        (Way::Mending, NO_SPACE),
+    ] {
         let name = format!("each system call fails: {way:?}, error {error}");
         report.group(&name, 50, |group| fail_each(scene, group, way, error));
     }
     report.group("another program writes at each system call", 100, |group| {
         foreign_at_each(scene, group)
     });
-    report.group("the order of writings", 2, |group| order(scene, group));
+    report.group("the order of writings", 2, |group| {
+        order::order(scene, group)
+    });
     for (name, over) in [("make killed", false), ("make --force killed", true)] {
-        report.group(name, 50, |group| kill_make(scene, group, over));
+        report.group(name, 50, |group| make::kill_make(scene, group, over));
     }
 }
