@@ -39,23 +39,129 @@ const fn refusal(
 }
 
 pub const ALL: [Refusal; 19] = [
-    refusal(1, WRITER, "the file has fewer than 2 bytes, more than 4,096, or is shorter than its table of pairs", "see that this is the file meant, and that it was copied whole; make it again from its table"),
-    refusal(2, WRITER, "the number of rights is not 1 to 8", "set byte 0 to the number of rights; of a file that is no house file this is often the first refusal"),
-    refusal(3, WRITER, "the number of pairs is not 2 to 34", "set byte 1 to 2 more than the number of rules; there are at most 32 rules"),
-    refusal(4, WRITER, "a section does not begin or end where it must", "begin the first section behind the last pair, each next one where the one before ends, and end the last with the file"),
-    refusal(5, WRITER, "a section has a wrong length", "give the kinds 32 bytes, the cells 1,024, and a rule 3 and 3 more for each condition and 4 for each step"),
-    refusal(6, WRITER, "a name has a kind above 2", "write 0 for an absent name, 1 for an object that is no subject, 2 for a subject"),
-    refusal(7, WRITER, "a cell holds a right that the file does not have, or holds one although its row is no subject or its column is absent", "clear the cell, or make its row a subject and its column an object"),
-    refusal(8, WRITER, "a rule has a number of blanks, conditions or steps that is out of range", "give a rule 1 to 4 blanks, 0 to 4 conditions and 1 to 6 steps"),
-    refusal(9, WRITER, "a rule names a right or a blank that is not there, or has a step that is none of the six", "use rights below the number of rights, blanks below the rule's, step kinds 1 to 6, and 0 for right and second blank in kinds 3 to 6"),
-    refusal(11, RUNNER, "there is no rule of this number", "use a rule of the file; the first one has number 0"),
-    refusal(12, RUNNER, "a name is above 31, or the names given are not as many as the rule has blanks", "give one name, 0 to 31, for each blank of the rule"),
-    refusal(13, RUNNER, "a blank that no condition and no step names is given a name that does not exist", "give that blank a name that exists"),
-    refusal(14, RUNNER, "a condition of the rule is not met", "see in the matrix which right is missing from which cell; a rule that enters it may have to be run first"),
-    refusal(15, RUNNER, "a step of the rule cannot be done", "enter and delete need a subject and an existing name, create an absent name, destroy an existing one of its kind"),
-    refusal(21, ASKER, "there is no right of this number", "ask for a right below the file's number of rights"),
-    refusal(22, ASKER, "a rule has more than one step, and the judge takes rules of one step only", "judge a table whose rules have one step each"),
-    refusal(23, ASKER, "more than 30 names exist, and the judge needs two to spare", "destroy a name, or judge a table of 30 names"),
-    refusal(24, ASKER, "the buffer for the steps is too short", "lend 5 × (g × (subjects + 1) × (names + 2) + 4) bytes; 39,700 are enough for every file. tugcaphi always does"),
-    refusal(31, RUNNER, "the length of the trace is no multiple of 5", "see that this is the trace meant, and that it was copied whole; a step has 5 bytes"),
+    refusal(
+        1,
+        WRITER,
+        "the file has fewer than 2 bytes, more than 4,096, or is shorter than its table of \
+         pairs",
+        "see that this is the file meant, and that it was copied whole; make it again from its \
+         table",
+    ),
+    refusal(
+        2,
+        WRITER,
+        "the number of rights is not 1 to 8",
+        "set byte 0 to the number of rights; of a file that is no house file this is often the \
+         first refusal",
+    ),
+    refusal(
+        3,
+        WRITER,
+        "the number of pairs is not 2 to 34",
+        "set byte 1 to 2 more than the number of rules; there are at most 32 rules",
+    ),
+    refusal(
+        4,
+        WRITER,
+        "a section does not begin or end where it must",
+        "begin the first section behind the last pair, each next one where the one before ends, \
+         and end the last with the file",
+    ),
+    refusal(
+        5,
+        WRITER,
+        "a section has a wrong length",
+        "give the kinds 32 bytes, the cells 1,024, and a rule 3 and 3 more for each condition \
+         and 4 for each step",
+    ),
+    refusal(
+        6,
+        WRITER,
+        "a name has a kind above 2",
+        "write 0 for an absent name, 1 for an object that is no subject, 2 for a subject",
+    ),
+    refusal(
+        7,
+        WRITER,
+        "a cell holds a right that the file does not have, or holds one although its row is no \
+         subject or its column is absent",
+        "clear the cell, or make its row a subject and its column an object",
+    ),
+    refusal(
+        8,
+        WRITER,
+        "a rule has a number of blanks, conditions or steps that is out of range",
+        "give a rule 1 to 4 blanks, 0 to 4 conditions and 1 to 6 steps",
+    ),
+    refusal(
+        9,
+        WRITER,
+        "a rule names a right or a blank that is not there, or has a step that is none of the \
+         six",
+        "use rights below the number of rights, blanks below the rule's, step kinds 1 to 6, and \
+         0 for right and second blank in kinds 3 to 6",
+    ),
+    refusal(
+        11,
+        RUNNER,
+        "there is no rule of this number",
+        "use a rule of the file; the first one has number 0",
+    ),
+    refusal(
+        12,
+        RUNNER,
+        "a name is above 31, or the names given are not as many as the rule has blanks",
+        "give one name, 0 to 31, for each blank of the rule",
+    ),
+    refusal(
+        13,
+        RUNNER,
+        "a blank that no condition and no step names is given a name that does not exist",
+        "give that blank a name that exists",
+    ),
+    refusal(
+        14,
+        RUNNER,
+        "a condition of the rule is not met",
+        "see in the matrix which right is missing from which cell; a rule that enters it may \
+         have to be run first",
+    ),
+    refusal(
+        15,
+        RUNNER,
+        "a step of the rule cannot be done",
+        "enter and delete need a subject and an existing name, create an absent name, destroy \
+         an existing one of its kind",
+    ),
+    refusal(
+        21,
+        ASKER,
+        "there is no right of this number",
+        "ask for a right below the file's number of rights",
+    ),
+    refusal(
+        22,
+        ASKER,
+        "a rule has more than one step, and the judge takes rules of one step only",
+        "judge a table whose rules have one step each",
+    ),
+    refusal(
+        23,
+        ASKER,
+        "more than 30 names exist, and the judge needs two to spare",
+        "destroy a name, or judge a table of 30 names",
+    ),
+    refusal(
+        24,
+        ASKER,
+        "the buffer for the steps is too short",
+        "lend 5 × (g × (subjects + 1) × (names + 2) + 4) bytes; 39,700 are enough for every \
+         file. tugcaphi always does",
+    ),
+    refusal(
+        31,
+        RUNNER,
+        "the length of the trace is no multiple of 5",
+        "see that this is the trace meant, and that it was copied whole; a step has 5 bytes",
+    ),
 ];

@@ -81,7 +81,7 @@ fn summaries(content: &Content, verdicts: &[Verdict]) -> String {
         "<div class=\"wide\"><table>\n<thead><tr><th>right</th><th>verdict</th><th>that is</th></tr></thead>\n<tbody>\n",
     );
     for verdict in verdicts {
-        let right = escaped(&content.words.right(usize::from(verdict.right)));
+        let right = escaped(&content.words.right_alone(usize::from(verdict.right)));
         let summary = text::summary(content, verdict);
         let summary = escaped(summary.trim_end_matches(':'));
         let badge = badge(verdict);
@@ -96,7 +96,7 @@ fn summaries(content: &Content, verdicts: &[Verdict]) -> String {
 /// The steps of an unsafe right and its picture; before a long list the picture comes first.
 fn unsafe_section(content: &Content, verdict: &Verdict, leak: &Leak) -> String {
     let words = &content.words;
-    let right = words.right(usize::from(verdict.right));
+    let right = words.right_alone(usize::from(verdict.right));
     let came = format!(
         "<p class=\"came\">{}</p>\n",
         escaped(&text::outcome(words, leak))
@@ -130,15 +130,19 @@ fn matrix(house: &House, words: &Words) -> String {
     let mut table =
         String::from("<div class=\"wide\"><table class=\"grid\">\n<thead><tr><th></th>");
     for &name in &names {
-        let _ = write!(table, "<th>{}</th>", escaped(&words.name(name)));
+        let _ = write!(table, "<th>{}</th>", escaped(&words.name_alone(name)));
     }
     table += "</tr></thead>\n<tbody>\n";
     for subject in house.matrix.subjects() {
-        let _ = write!(table, "<tr><th>{}</th>", escaped(&words.name(subject)));
+        let _ = write!(
+            table,
+            "<tr><th>{}</th>",
+            escaped(&words.name_alone(subject))
+        );
         for &object in &names {
             let rights = house.matrix.cell(subject, object).iter();
             let spans =
-                rights.map(|right| format!("<span>{}</span>", escaped(&words.right(right))));
+                rights.map(|right| format!("<span>{}</span>", escaped(&words.right_alone(right))));
             let _ = write!(table, "<td>{}</td>", spans.collect::<String>());
         }
         table += "</tr>\n";

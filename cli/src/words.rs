@@ -44,6 +44,19 @@ impl Words {
         text.map_or(number.to_string(), |text| word::written(text))
     }
 
+    /// A right without quotes, for where it stands by itself.
+    pub fn right_alone(&self, number: usize) -> String {
+        self.rights
+            .get(number)
+            .map_or(number.to_string(), String::clone)
+    }
+
+    /// A name without quotes, for where it stands by itself.
+    pub fn name_alone(&self, number: usize) -> String {
+        let text = self.names.get(number).and_then(Option::as_ref);
+        text.map_or(number.to_string(), String::clone)
+    }
+
     /// A name as it is written. One that the table does not have is shown by its number.
     pub fn name(&self, number: usize) -> String {
         let text = self.names.get(number).and_then(Option::as_ref);

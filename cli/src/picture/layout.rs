@@ -146,12 +146,12 @@ impl Layout {
     ) {
         for cell in self.entries.values_mut() {
             for (right, entry) in cell {
-                entry.width = measure(&content.words.right(*right), 13);
+                entry.width = measure(&content.words.right_alone(*right), 13);
             }
         }
         let head = |name: usize| {
             let disc = if created.contains_key(&name) { DISC } else { 0 };
-            measure(&content.words.name(name), 13) + disc
+            measure(&content.words.name_alone(name), 13) + disc
         };
         let margin = subjects.iter().map(|&name| head(name)).max().unwrap_or(0);
         let mut at = margin + 2 * PAD;

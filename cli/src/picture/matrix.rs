@@ -36,7 +36,12 @@ pub fn matrix(content: &Content, steps: &[Done], aim: &Aim) -> (Canvas, bool) {
             };
             for (right, entry) in cell {
                 let wanted = wanted(aim, (*right, row.name, column.name));
-                draw(&mut canvas, entry, &content.words.right(*right), wanted);
+                draw(
+                    &mut canvas,
+                    entry,
+                    &content.words.right_alone(*right),
+                    wanted,
+                );
             }
         }
     }
@@ -74,7 +79,7 @@ fn grid(canvas: &mut Canvas, layout: &Layout, words: &Words) {
 }
 
 fn heading(canvas: &mut Canvas, lane: &Lane, (x, y): (usize, usize), words: &Words) {
-    let word = words.name(lane.name);
+    let word = words.name_alone(lane.name);
     match lane.created {
         Some(step) => {
             canvas.count(x + 9, y - 4, "dot", step);

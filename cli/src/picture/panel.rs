@@ -37,7 +37,7 @@ pub fn panel(content: &Content, verdict: &Verdict, whole: bool) -> Canvas {
 }
 
 fn head(canvas: &mut Canvas, content: &Content, verdict: &Verdict) {
-    let right = content.words.right(usize::from(verdict.right));
+    let right = content.words.right_alone(usize::from(verdict.right));
     let (class, word) = match verdict.ruling {
         Ruling::Safe(_) => ("good", "SAFE"),
         Ruling::Unsafe(_) => ("bad", "UNSAFE"),

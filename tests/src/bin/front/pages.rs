@@ -78,7 +78,7 @@ fn picture_held(svg: &str, content: &Content, verdicts: &[Verdict]) -> Result<()
     inside(&root, (0, 0), (width, height))?;
     let texts: Vec<String> = root.named("tspan").iter().map(|e| e.text()).collect();
     for verdict in verdicts {
-        let right = content.words.right(usize::from(verdict.right));
+        let right = content.words.right_alone(usize::from(verdict.right));
         is(texts.contains(&right), || {
             format!("the right {right} is not there")
         })?;
@@ -158,7 +158,7 @@ fn page_held(page: &str, content: &Content, verdicts: &[Verdict]) -> Result<(), 
 /// A verdict has its row, and an unsafe one all its steps.
 fn verdict_held(root: &Element, content: &Content, verdict: &Verdict) -> Result<(), String> {
     let words = &content.words;
-    let right = words.right(usize::from(verdict.right));
+    let right = words.right_alone(usize::from(verdict.right));
     let (word, steps) = match &verdict.ruling {
         Ruling::Safe(_) => ("SAFE", &[][..]),
         Ruling::Unsafe(leak) => ("UNSAFE", leak.steps.as_slice()),
