@@ -15,8 +15,8 @@
  *
  * - It ends, whatever it is given, and reads and writes nothing but what it is lent.
  * - Any bytes are taken as a file, a trace or a buffer, and any number as a rule, a name or a right. What is wrong with them is
- *   the answer: a number of docs/REFUSALS.md, 1 to 9 for the file, 11 to 15 and 31 for a rule run or a trace, 21 to 24 for a
- *   question to the judge. The first one that applies is given, in the order of that page.
+ *   the answer: a number of docs/REFUSALS.md, 1 to 9 for the file, 11, 12, 14, 15 and 31 for a rule run or a trace, 21 to 24
+ *   for a question to the judge. The first one that applies is given, in the order of that page.
  * - Refused, it changes no byte of a file or a buffer.
  *
  * What the caller must see to; no call can test it
@@ -47,15 +47,18 @@ extern "C" {
 #define TUGCAPHI_SAFE 0     /* access_judge */
 #define TUGCAPHI_UNSAFE 255
 
-/* A step of a trace: the rule's number and four names, 255 in the positions that the rule does not use. */
+/*
+ * A step of a trace: the rule's number and four names, 255 in the positions behind the rule's blanks, and any byte in a spare
+ * blank, which is one that no condition and no step of the rule names.
+ */
 #define TUGCAPHI_STEP 5
 
 /* A buffer of so many bytes is long enough for every judgement: 5 * (8 * 31 * 32 + 4). */
 #define TUGCAPHI_BUFFER 39700
 
 /*
- * Bytes of stack that are enough for each call. This is measured and not proved: access_check used 6,000 bytes, access_run and
- * access_replay 12,400, access_judge 23,500. Each ran in a thread whose stack of 1 MiB was painted with a pattern before, and
+ * Bytes of stack that are enough for each call. This is measured and not proved: access_check used about 6,000 bytes, access_run
+ * and access_replay 13,500, access_judge 23,500. Each ran in a thread whose stack of 1 MiB was painted with a pattern before, and
  * what had lost its paint afterwards was counted, less what an idle thread uses; on all files of the benchmark and 1,500
  * generated ones, for all rights. The files made no difference: the calls hold arrays of fixed size alone, and recur at most
  * once for each blank of a rule. The tests measure it again, and fail above this number.
@@ -68,10 +71,11 @@ extern "C" {
 uint8_t access_check(const uint8_t *file, size_t length);
 
 /*
- * Runs rule number `rule` with the names a0 to a3; positions that the rule does not use must hold 255.
+ * Runs rule number `rule` with the names a0 to a3. A spare blank takes any number, which changes nothing; positions behind the
+ * rule's blanks must hold 255.
  *
  * 0: all its steps were carried out, in the file, whose kinds and cells alone have changed; it is still accepted, with the
- * same rules. Else the refusal, 1 to 9 or 11 to 15, and the file is as it was.
+ * same rules. Else the refusal, 1 to 9, 11, 12, 14 or 15, and the file is as it was.
  */
 uint8_t access_run(uint8_t *file, size_t length, uint8_t rule, uint8_t a0, uint8_t a1, uint8_t a2, uint8_t a3);
 
@@ -80,8 +84,8 @@ uint8_t access_run(uint8_t *file, size_t length, uint8_t rule, uint8_t a0, uint8
  * right: enters it into a cell that lacks it.
  *
  * 255: step number *step, from 0, is the first to leak, and none before it is refused. 0: all steps were carried out, and none
- * leaks; *step is 0. Else the refusal: 11 to 15 with the number of the refused step in *step, before which none leaks; 1 to 9,
- * 21 and 31 with 0.
+ * leaks; *step is 0. Else the refusal: 11, 12, 14 or 15 with the number of the refused step in *step, before which none leaks;
+ * 1 to 9, 21 and 31 with 0.
  */
 uint8_t access_replay(const uint8_t *file, size_t length, const uint8_t *trace, size_t trace_length, uint8_t right,
                       uint64_t *step);
@@ -91,7 +95,7 @@ uint8_t access_replay(const uint8_t *file, size_t length, const uint8_t *trace, 
  *
  * 255, unsafe: the first 5 * *steps bytes of the buffer are a run that does, from the file as it is: no step of it is refused,
  * and it leaks at its last step and nowhere sooner. 0, safe: no run leaks; the first 5 * *steps bytes of the buffer are the
- * steps by which the judge found this out. The rest of the buffer keeps its bytes. Else the refusal, 1 to 9 or 21 to 24;
+ * steps by which the judge found this out. Spare blanks have 0 in them. The rest of the buffer keeps its bytes. Else the refusal, 1 to 9 or 21 to 24;
  * *steps is 0.
  */
 uint8_t access_judge(const uint8_t *file, size_t length, uint8_t right, uint8_t *buffer, size_t buffer_length,

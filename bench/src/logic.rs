@@ -10,8 +10,8 @@ use std::fmt::Write;
 
 const BLANKS: [&str; 4] = ["A", "B", "C", "D"];
 
-/// The conditions and unnamed blanks of a rule as literals. With `but` a right
-/// that a condition asks for must stand in another cell than `but`.
+/// The conditions of a rule as literals; of a spare blank nothing is asked. With
+/// `but` a right that a condition asks for must stand in another cell than `but`.
 fn body(rule: &Rule, right: u8, but: Option<(usize, usize)>) -> Vec<String> {
     let mut literals = Vec::new();
     for test in &rule.conditions {
@@ -23,9 +23,6 @@ fn body(rule: &Rule, right: u8, but: Option<(usize, usize)>) -> Vec<String> {
                 literals.push(format!("({s},{o}) != ({subject},{object})"));
             }
         }
-    }
-    for &blank in &rule.unnamed {
-        literals.push(format!("exists({})", BLANKS[blank]));
     }
     literals
 }

@@ -283,7 +283,10 @@ fn main() {
     for sample in all(SEED) {
         let bytes = sample.draft.file();
         let contents = file::read(&bytes).expect("an accepted file");
-        let judged = sample.same.as_ref().map_or(bytes.clone(), |same| same.file());
+        let judged = sample
+            .same
+            .as_ref()
+            .map_or(bytes.clone(), |same| same.file());
         let table = Table::new(&file::read(&judged).expect("an accepted file"));
         let answer = pruned::judge(&table, 1 << sample.right);
         let wanted = listing(&table, &answer);

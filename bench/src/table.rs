@@ -1,6 +1,7 @@
 //! A table in arrays, as the benchmark's judges want it.
 
-use reference::file::{Contents, Step};
+use reference::file::{self, Contents, Step};
+use std::ops::Range;
 
 #[derive(Clone)]
 pub struct State {
@@ -26,7 +27,9 @@ pub struct Rule {
     pub bit: u8,
     pub first: usize,
     pub second: usize,
-    pub unnamed: Vec<usize>,
+    /// What a place has in each position: all names for a blank, 0 for one that
+    /// nothing names, 255 from k on.
+    pub names: [Range<usize>; 4],
 }
 
 pub struct Table {
@@ -51,6 +54,16 @@ impl State {
 
     pub fn has(&self, subject: usize, object: usize, bit: u8) -> bool {
         self.cells[(32 * subject + object) & 1023] & bit != 0
+    }
+}
+
+fn names(rule: &file::Rule, position: usize) -> Range<usize> {
+    if rule.spare.contains(&position) {
+        0..1
+    } else if position < rule.blanks {
+        0..32
+    } else {
+        255..256
     }
 }
 
@@ -93,7 +106,7 @@ impl Table {
                 bit,
                 first,
                 second,
-                unnamed: rule.unnamed.clone(),
+                names: std::array::from_fn(|position| names(rule, position)),
             }
         });
         Table {

@@ -30,7 +30,7 @@ impl Arguments {
         while let Some(word) = words.next() {
             match word.to_str() {
                 Some("--") => arguments.plain.extend(words.by_ref()),
-                Some(text) if text.len() > 1 && text.starts_with('-') => {
+                Some(text) if is_option(&word) => {
                     let (name, value) = split(text);
                     arguments.option(name, value, &mut words, choices)?;
                 }
@@ -63,10 +63,10 @@ impl Arguments {
                 return Err(Failure::said(message, "leave out = and what follows it"));
             }
             (Some(_), Some(value)) => value.into(),
-            (Some(called), None) => words.next().ok_or_else(|| {
-                let message = format!("the option {} has no value", choice.long);
-                Failure::said(message, format!("write {} {called}", choice.long))
-            })?,
+            (Some(called), None) => {
+                let next = words.next().filter(|word| !is_option(word));
+                next.ok_or_else(|| no_value(choice.long, called))?
+            }
         };
         self.options.push((choice.long, value));
         Ok(())
@@ -81,6 +81,16 @@ impl Arguments {
         let found = self.options.iter().find(|(name, _)| *name == long);
         found.map(|(_, value)| value.as_os_str())
     }
+}
+
+/// Whether a word begins as options do; `-` alone is standard input or output.
+fn is_option(word: &OsStr) -> bool {
+    word.len() > 1 && word.as_encoded_bytes().starts_with(b"-")
+}
+
+fn no_value(option: &str, called: &str) -> Failure {
+    let advice = format!("write {option} {called}; a path that begins with - follows {option}=");
+    Failure::said(format!("the option {option} has no value"), advice)
 }
 
 /// `--option=value` in its two parts.

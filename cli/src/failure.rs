@@ -9,8 +9,6 @@ use crate::terminal::Style;
 pub enum Failure {
     /// What is wrong, and what to do.
     Said { message: String, advice: String },
-    /// A file could not be read or written; the sentence says what to do.
-    File(String),
     /// A mistake in a table, with the table's path.
     Table(String, Box<Mistake>),
 }
@@ -27,29 +25,18 @@ impl Failure {
     pub fn shown(&self, style: Style) -> String {
         let error = style.bad("error:");
         match self {
-            Failure::Said { message, advice } if advice.is_empty() => {
-                format!("{error} {message}\n")
-            }
             Failure::Said { message, advice } => {
                 format!("{error} {message}\n = {} {advice}\n", style.good("hint:"))
             }
-            Failure::File(message) => format!("{error} {message}\n"),
             Failure::Table(path, mistake) => mistake.shown(path, style),
         }
     }
 
     pub fn json(&self) -> Json {
         match self {
-            Failure::Said { message, advice } => {
-                let hint = Some(advice.clone()).filter(|advice| !advice.is_empty());
-                Json::Object(vec![
-                    ("message", message.clone().into()),
-                    ("hint", hint.into()),
-                ])
-            }
-            Failure::File(message) => Json::Object(vec![
+            Failure::Said { message, advice } => Json::Object(vec![
                 ("message", message.clone().into()),
-                ("hint", Json::Null),
+                ("hint", advice.clone().into()),
             ]),
             Failure::Table(path, mistake) => mistake_json(path, mistake),
         }
@@ -88,6 +75,6 @@ pub fn told(wrong: &std::io::Error) -> String {
 
 impl From<Problem> for Failure {
     fn from(problem: Problem) -> Failure {
-        Failure::File(problem.message)
+        Failure::said(problem.message, problem.advice)
     }
 }

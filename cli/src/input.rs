@@ -43,8 +43,17 @@ pub fn shown(path: &OsStr) -> String {
 /// Whether standard input was read.
 static TAKEN: AtomicBool = AtomicBool::new(false);
 
-/// All bytes of a file, or of standard input. Of one that is far too long, only more than anything takes.
+/// All bytes of a house file or a table, or of standard input. Of one that is far too long, only more than either has.
 pub fn bytes(path: &OsStr) -> Result<Vec<u8>, Failure> {
+    up_to(path, MOST_BYTES as u64 + 16)
+}
+
+/// All bytes of a trace, however long it is: the last step counts as much as the first.
+pub fn whole(path: &OsStr) -> Result<Vec<u8>, Failure> {
+    up_to(path, u64::MAX)
+}
+
+fn up_to(path: &OsStr, most: u64) -> Result<Vec<u8>, Failure> {
     if path == "-" && TAKEN.swap(true, Ordering::Relaxed) {
         let advice = "give the path of one of the two";
         return Err(Failure::said(
@@ -53,7 +62,6 @@ pub fn bytes(path: &OsStr) -> Result<Vec<u8>, Failure> {
         ));
     }
     let mut bytes = Vec::new();
-    let most = MOST_BYTES as u64 + 16;
     let read = if path == "-" {
         io::stdin().lock().take(most).read_to_end(&mut bytes)
     } else {

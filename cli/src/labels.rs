@@ -1,10 +1,10 @@
 //! Rights, names, rules and steps for other programs: numbers, with words beside them.
 
-use crate::house::Kind;
+use crate::house::{Kind, Rule};
 use crate::json::Json;
 use crate::machine::{Act, Held};
 use crate::story::Done;
-use crate::trace::Step;
+use crate::trace::{Given, Step};
 use crate::words::Words;
 
 /// The number of something, and its word if a table gives it one.
@@ -51,17 +51,21 @@ pub fn kind(kind: Kind) -> Json {
     }
 }
 
-/// A rule and the names it is run with.
-pub fn call(words: &Words, step: Step) -> Vec<(&'static str, Json)> {
-    let names = step.names();
+/// A rule and what its blanks get, one by one.
+pub fn call(words: &Words, rules: &[Rule], step: Step) -> Vec<(&'static str, Json)> {
+    let given = step.given(rules).into_iter();
+    let names = given.map(|given| match given {
+        Given::Name(given) => name(words, given),
+        Given::Job(number) => Json::Object(vec![("job", usize::from(number).into())]),
+    });
     vec![
         ("rule", rule(words, usize::from(step.rule))),
-        ("names", names.iter().map(|&n| name(words, n)).collect()),
+        ("names", names.collect()),
     ]
 }
 
-pub fn done(words: &Words, done: &Done) -> Json {
-    let mut fields = call(words, done.step);
+pub fn done(words: &Words, rules: &[Rule], done: &Done) -> Json {
+    let mut fields = call(words, rules, done.step);
     fields.push((
         "acts",
         done.acts.iter().map(|one| act(words, one)).collect(),

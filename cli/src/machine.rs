@@ -43,7 +43,7 @@ pub enum Why {
     Lacks,
 }
 
-/// Does an operation, if it can be done. Every blank has a name.
+/// Does an operation, if it can be done. The blanks that it names have names.
 pub fn perform(matrix: &mut Matrix, operation: Operation, names: &[usize]) -> Result<Act, Why> {
     match operation {
         Operation::Enter {

@@ -15,7 +15,8 @@ pub const FAILED: u8 = 3;
 
 /// Does what the words of the command line say and gives the exit status.
 pub fn run(mut words: Vec<OsString>) -> u8 {
-    let json = words.iter().any(|word| word == "--json");
+    let mut options = words.iter().take_while(|word| *word != "--");
+    let json = options.any(|word| word == "--json");
     if words.is_empty() {
         return fail(&none(), "", false);
     }
@@ -113,10 +114,9 @@ fn print(bytes: &[u8]) -> u8 {
     let mut out = io::stdout().lock();
     match out.write_all(bytes).and_then(|()| out.flush()) {
         Err(wrong) if wrong.kind() != ErrorKind::BrokenPipe => {
-            complain(&format!(
-                "error: standard output cannot be written: {}\n",
-                told(&wrong)
-            ));
+            let message = format!("standard output cannot be written: {}", told(&wrong));
+            let advice = "see where it goes; what was to be done is done, and was not told";
+            complain(&Failure::said(message, advice).shown(Style::of(&io::stderr())));
             FAILED
         }
         _ => 0,

@@ -27,7 +27,6 @@ fn first(house: &House, words: &Words, step: Step) -> Option<(u8, String)> {
         step,
     };
     None.or_else(|| run.actuals().map(|reason| (12, reason)))
-        .or_else(|| run.spare().map(|reason| (13, reason)))
         .or_else(|| run.conditions().map(|reason| (14, reason)))
         .or_else(|| run.steps().map(|reason| (15, reason)))
 }
@@ -75,7 +74,11 @@ impl Run<'_> {
             count(blanks.len(), "blank"),
             blanks.join(", ")
         );
+        let spare = self.rule.spare();
         for (place, &name) in self.step.actuals.iter().enumerate() {
+            if spare.contains(&place) {
+                continue;
+            }
             let used = place < self.rule.blanks;
             if used && name == UNUSED {
                 return Some(format!(
@@ -91,18 +94,6 @@ impl Run<'_> {
             }
         }
         None
-    }
-
-    fn spare(&self) -> Option<String> {
-        let (_, blanks) = self.rule_words();
-        let names = self.names();
-        let absent = |blank: &usize| self.matrix.kinds[names[*blank]] == crate::house::Kind::Absent;
-        let blank = self.rule.spare().into_iter().find(absent)?;
-        let name = self.words.name(names[blank]);
-        Some(format!(
-            "{name} does not exist, and the blank {} needs a name that does",
-            blanks[blank]
-        ))
     }
 
     fn conditions(&self) -> Option<String> {

@@ -38,7 +38,7 @@ const fn refusal(
     }
 }
 
-pub const ALL: [Refusal; 19] = [
+pub const ALL: [Refusal; 18] = [
     refusal(
         1,
         WRITER,
@@ -110,14 +110,10 @@ pub const ALL: [Refusal; 19] = [
     refusal(
         12,
         RUNNER,
-        "a name is above 31, or the names given are not as many as the rule has blanks",
-        "give one name, 0 to 31, for each blank of the rule",
-    ),
-    refusal(
-        13,
-        RUNNER,
-        "a blank that no condition and no step names is given a name that does not exist",
-        "give that blank a name that exists",
+        "a blank that a condition or a step names has no name from 0 to 31, or more is given \
+         than the rule has blanks",
+        "give a name, 0 to 31, for each such blank, any number from 0 to 255 for the others, \
+         and no more than the rule has blanks",
     ),
     refusal(
         14,

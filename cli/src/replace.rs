@@ -61,17 +61,19 @@ pub enum Outcome<T> {
     Done { value: T, notes: Vec<String> },
 }
 
-/// A sentence that says what went wrong and what to do.
+/// What went wrong, and what to do.
 #[derive(Debug)]
 pub struct Problem {
     pub message: String,
+    pub advice: String,
 }
 
 impl Problem {
     /// About a file, as the user named it.
-    fn about(given: &Path, text: impl AsRef<str>) -> Problem {
+    fn about(given: &Path, text: impl AsRef<str>, advice: impl Into<String>) -> Problem {
         Problem {
             message: format!("{}: {}", given.display(), text.as_ref()),
+            advice: advice.into(),
         }
     }
 }
@@ -92,7 +94,8 @@ pub fn edit<T>(
         return Ok(Outcome::Unchanged { value, notes });
     };
     if content.len().max(file.len()) as u64 >= place::MOST {
-        return Err(held.place.about("too long to be replaced."));
+        let advice = "see that this is the file meant; a house file is far shorter";
+        return Err(held.place.about("too long to be replaced", advice));
     }
     let logged = match (&options.log, step) {
         (Some(log), Some(step)) => Some((Log::open(log, &held.was)?, step)),
@@ -119,8 +122,8 @@ pub fn create(
         return Ok(Vec::new());
     }
     if !force {
-        let text = "there is a file of this name already; --force replaces it.";
-        return Err(Problem::about(path, text));
+        let text = "there is a file of this name already";
+        return Err(Problem::about(path, text, "--force replaces it"));
     }
     Held::take(path, &Options { wait, log: None })?.write(content, None)
 }

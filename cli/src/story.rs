@@ -2,31 +2,27 @@
 
 use crate::count::count;
 use crate::house::decode::decode;
-use crate::house::{House, Kind, Matrix};
+use crate::house::{House, Kind, Matrix, Rule};
 use crate::library;
 use crate::limits::NAMES;
 use crate::machine::{perform, Act, Held};
-use crate::trace::Step;
+use crate::trace::{Given, Step};
 use crate::words::Words;
 
-/// A step that was done: what it did, and the matrix it left.
+/// A step that was done, and what it did.
 pub struct Done {
     pub step: Step,
     pub acts: Vec<Act>,
-    pub after: Matrix,
 }
 
-/// Carries out a step on the bytes of a file: what it did, or the refusal.
-pub fn carry_out(file: &mut [u8], step: Step) -> Result<Done, u8> {
-    let before = decode(file);
+/// Carries out a step on the bytes of a file, which say what `house` says, before and after: what it did, or the refusal.
+pub fn carry_out(file: &mut [u8], house: &mut House, step: Step) -> Result<Done, u8> {
     match library::run(file, step.rule, step.actuals) {
         0 => {
             let after = decode(file).matrix;
-            Ok(Done {
-                step,
-                acts: acts(&before, step, &after),
-                after,
-            })
+            let acts = acts(house, step, &after);
+            house.matrix = after;
+            Ok(Done { step, acts })
         }
         refusal => Err(refusal),
     }
@@ -86,13 +82,25 @@ pub fn leak(acts: &[Act], right: usize) -> Option<Held> {
     })
 }
 
-/// A rule with its names: `lend (Ada, Ben, vermilion)`.
-pub fn call(words: &Words, step: Step) -> String {
-    let names: Vec<String> = step.names().iter().map(|&name| words.name(name)).collect();
+/// Whether the numbers in spare blanks are told. The judge's are all 0, and say nothing.
+#[derive(Clone, Copy, PartialEq, Eq)]
+pub enum Jobs {
+    Told,
+    LeftOut,
+}
+
+/// A rule with its names: `lend (Ada, Ben, job 117)`.
+pub fn call(words: &Words, rules: &[Rule], step: Step, jobs: Jobs) -> String {
+    let given = step.given(rules).into_iter();
+    let told = given.filter_map(|given| match given {
+        Given::Name(name) => Some(words.name(name)),
+        Given::Job(number) => (jobs == Jobs::Told).then(|| format!("job {number}")),
+    });
+    let told: Vec<String> = told.collect();
     format!(
         "{} ({})",
         words.rule(usize::from(step.rule)),
-        names.join(", ")
+        told.join(", ")
     )
 }
 

@@ -1,7 +1,8 @@
 //! Traces: steps of five bytes, or the lines that the desk program prints.
 
 use crate::failure::Failure;
-use crate::limits::{BLANKS, STEP_BYTES, UNUSED};
+use crate::house::Rule;
+use crate::limits::{BLANKS, NAMES, RULES, STEP_BYTES, UNUSED};
 
 /// A rule run: a rule and its actuals, 255 from its number of blanks on.
 #[derive(Clone, Copy, Debug, PartialEq, Eq)]
@@ -17,19 +18,39 @@ impl Step {
         bytes
     }
 
-    /// The names given, without the positions behind the last one.
-    pub fn names(self) -> Vec<usize> {
-        let unused = self
-            .actuals
-            .iter()
-            .rev()
-            .take_while(|&&name| name == UNUSED);
-        let given = BLANKS - unused.count();
-        self.actuals[..given]
-            .iter()
-            .map(|&name| usize::from(name))
-            .collect()
+    /// Whether it could be done on some file, by its numbers alone. Every rule names a blank, and the others may be spare.
+    pub fn possible(self) -> bool {
+        let name = |&name: &u8| usize::from(name) < NAMES;
+        usize::from(self.rule) < RULES && self.actuals.iter().any(name)
     }
+
+    /// What its rule's blanks get, in order. Where a name is missing, without the positions behind the last one given.
+    pub fn given(self, rules: &[Rule]) -> Vec<Given> {
+        let rule = rules.get(usize::from(self.rule));
+        let spare = rule.map_or(Vec::new(), Rule::spare);
+        let named = |place: &usize| !spare.contains(place);
+        let unused = |&name: &u8| name == UNUSED;
+        let blanks = rule.map_or(0, |rule| rule.blanks);
+        let whole = (0..blanks)
+            .filter(named)
+            .all(|blank| !unused(&self.actuals[blank]));
+        let last = self.actuals.iter().rposition(|name| !unused(name));
+        let end = last.map_or(0, |last| last + 1);
+        let end = if whole { end.max(blanks) } else { end };
+        let place = |place: usize| match named(&place) {
+            true => Given::Name(usize::from(self.actuals[place])),
+            false => Given::Job(self.actuals[place]),
+        };
+        (0..end).map(place).collect()
+    }
+}
+
+/// What stands in a position of a step.
+#[derive(Clone, Copy, Debug, PartialEq, Eq)]
+pub enum Given {
+    Name(usize),
+    /// The number in a blank that no condition and no step of the rule names.
+    Job(u8),
 }
 
 /// The whole steps of a trace.

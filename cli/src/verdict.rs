@@ -57,10 +57,10 @@ pub fn judge(file: &[u8], house: &House, right: u8) -> Result<Verdict, Failure> 
 
 /// The judge's steps, carried out one after the other.
 fn told(file: &[u8], house: &House, right: u8, trace: &[u8]) -> Result<Leak, Failure> {
-    let mut file = file.to_vec();
+    let (mut file, mut after) = (file.to_vec(), house.clone());
     let mut done = Vec::new();
     for step in steps(trace) {
-        done.push(carry_out(&mut file, step).map_err(|_| astray())?);
+        done.push(carry_out(&mut file, &mut after, step).map_err(|_| astray())?);
     }
     let last = done.last().map_or(&[][..], |last| &last.acts);
     let held = leak(last, usize::from(right)).ok_or_else(astray)?;

@@ -73,6 +73,19 @@ impl Words {
     }
 }
 
+/// The number that a spare blank gets.
+pub fn job_number(given: &OsStr, blank: &str) -> Result<u8, Failure> {
+    let text = given.to_string_lossy();
+    let number = word::digits(&text).and_then(|_| text.parse().ok());
+    number.ok_or_else(|| {
+        let blank = word::written(blank);
+        let advice = format!(
+            "no condition and no step names the blank {blank}: give it a number from 0 to 255"
+        );
+        Failure::said(format!("{text} is no job number"), advice)
+    })
+}
+
 impl Words {
     /// The number of a right that is given by word or number. Whether there is one of that number, the library says.
     pub fn right_number(&self, given: &OsStr) -> Result<u8, Failure> {

@@ -3,7 +3,8 @@
 //!
 //! It knows nothing of the judge's argument. A refused rule run leaves the
 //! state, so it adds no state and no leak; a leak that needs no name outside
-//! the pool is found.
+//! the pool is found. What a spare blank gets is asked nowhere, so that one
+//! number stands for all.
 
 use crate::file::{Contents, Rule, Step};
 use crate::machine::{AccessMatrix, Bounded, Kind};
@@ -86,7 +87,7 @@ pub enum Move {
 }
 
 impl Instance {
-    /// `actuals` are positions in the pool.
+    /// `actuals` are positions in the pool; those of spare blanks are not read.
     pub fn new(rule: &Rule, actuals: &[usize]) -> Instance {
         assert!(rule.steps.len() == 1);
         let mut instance = Instance {
@@ -97,9 +98,6 @@ impl Instance {
             cells: [0; RIGHTS],
             operation: Operation::Destroy(0),
         };
-        for &blank in &rule.unnamed {
-            instance.exists |= 1 << actuals[blank];
-        }
         for condition in &rule.conditions {
             let (s, o) = (actuals[condition.subject], actuals[condition.object]);
             instance.subjects |= 1 << s;
@@ -195,15 +193,16 @@ impl Instance {
     }
 }
 
-/// All actuals of all rules over a pool of this size.
+/// All actuals of all rules over a pool of this size, in the blanks that are
+/// named.
 pub fn instances(rules: &[Rule], pool: usize) -> Vec<Instance> {
     let mut all = Vec::new();
     for rule in rules {
-        for code in 0..pool.pow(rule.blanks as u32) {
+        for code in 0..pool.pow(rule.named().count() as u32) {
             let mut rest = code;
             let mut actuals = [0; 4];
-            for actual in actuals.iter_mut().take(rule.blanks) {
-                *actual = rest % pool;
+            for blank in rule.named() {
+                actuals[blank] = rest % pool;
                 rest /= pool;
             }
             all.push(Instance::new(rule, &actuals));

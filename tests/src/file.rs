@@ -64,8 +64,15 @@ pub struct Rule {
     pub blanks: usize,
     pub conditions: Vec<Condition>,
     pub steps: Vec<Step>,
-    /// The blanks that no condition and no step names.
-    pub unnamed: Vec<usize>,
+    /// The blanks that no condition and no step names; they take any number.
+    pub spare: Vec<usize>,
+}
+
+impl Rule {
+    /// The blanks that some condition or step names.
+    pub fn named(&self) -> impl Iterator<Item = usize> + '_ {
+        (0..self.blanks).filter(|blank| !self.spare.contains(blank))
+    }
 }
 
 #[derive(Clone, Debug)]
@@ -216,18 +223,18 @@ fn read_rule(section: &[u8], rights: u8) -> Result<Rule, u8> {
     }
     assert!(rest.is_empty());
 
-    let mut unnamed: Vec<usize> = (0..k as usize).collect();
+    let mut spare: Vec<usize> = (0..k as usize).collect();
     for condition in &conditions {
-        unnamed.retain(|&blank| blank != condition.subject && blank != condition.object);
+        spare.retain(|&blank| blank != condition.subject && blank != condition.object);
     }
     for step in &steps {
-        unnamed.retain(|blank| !step.blanks().contains(blank));
+        spare.retain(|blank| !step.blanks().contains(blank));
     }
     Ok(Rule {
         blanks: k as usize,
         conditions,
         steps,
-        unnamed,
+        spare,
     })
 }
 

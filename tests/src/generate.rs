@@ -67,6 +67,74 @@ impl Draft {
             }
         }
     }
+
+    /// About a third of the rules have spare blanks after this, one to three
+    /// of them, and the others none.
+    fn spread_spares(&mut self, random: &mut Random) {
+        for section in &mut self.rules {
+            let room = 4 - named(section).len();
+            let count = match room {
+                0 => 0,
+                _ if !random.percent(36) => 0,
+                _ => random.between(1, room),
+            };
+            *section = with_spares(random, section, count);
+        }
+    }
+}
+
+/// The blanks that the rule's conditions and steps name, in order.
+fn named(section: &[u8]) -> Vec<u8> {
+    let (conditions, steps) = section[3..].split_at(3 * section[1] as usize);
+    let tested = conditions.chunks(3).flat_map(|test| &test[1..]);
+    let used = steps.chunks(4).flat_map(|step| match step[0] {
+        ENTER | DELETE => &step[2..],
+        _ => &step[2..3],
+    });
+    let mut blanks: Vec<u8> = tested.chain(used).copied().collect();
+    blanks.sort();
+    blanks.dedup();
+    blanks
+}
+
+/// The rule with this many spare blanks, anywhere among those that it names.
+pub fn with_spares(random: &mut Random, section: &[u8], count: usize) -> Vec<u8> {
+    let named = named(section);
+    let blanks = named.len() + count;
+    let mut places: Vec<u8> = (0..blanks as u8).collect();
+    random.shuffle(&mut places);
+    places.truncate(named.len());
+    places.sort();
+    let moved = |blank: u8| match named.binary_search(&blank) {
+        Ok(at) => places[at],
+        Err(_) => unreachable!("named"),
+    };
+    let mut section = section.to_vec();
+    section[0] = blanks as u8;
+    let steps = 3 * section[1] as usize;
+    let (conditions, steps) = section[3..].split_at_mut(steps);
+    for test in conditions.chunks_mut(3) {
+        test[1] = moved(test[1]);
+        test[2] = moved(test[2]);
+    }
+    for step in steps.chunks_mut(4) {
+        step[2] = moved(step[2]);
+        if matches!(step[0], ENTER | DELETE) {
+            step[3] = moved(step[3]);
+        }
+    }
+    section
+}
+
+/// What stands in a spare blank: any byte, and the ends of what a name can be
+/// more often than by chance.
+pub fn job_number(random: &mut Random) -> u8 {
+    match random.below(8) {
+        0 => 255,
+        1 => random.pick(&[0, 31, 32, 33, 127, 128, 254]),
+        2 => random.below(NAMES) as u8,
+        _ => random.byte(),
+    }
 }
 
 /// A rule's section: conditions (right, subject blank, object blank), steps
@@ -149,6 +217,7 @@ pub fn any(random: &mut Random) -> Draft {
         _ => random.between(1, 31),
     };
     draft.rules = (0..rules).map(|_| any_rule(random, rights)).collect();
+    draft.spread_spares(random);
     draft
 }
 
@@ -224,6 +293,7 @@ pub fn lively(random: &mut Random) -> Draft {
     let mut draft = matrix(random, rights, names, subjects, density);
     let rules = random.pick(&[1, 2, 4, 8, 16, 32]);
     draft.rules = (0..rules).map(|_| plausible_rule(random, rights)).collect();
+    draft.spread_spares(random);
     draft
 }
 
@@ -271,6 +341,7 @@ pub fn turbulent(random: &mut Random) -> Draft {
         }
         draft.rules.push(rule(blanks, &[], &steps));
     }
+    draft.spread_spares(random);
     draft
 }
 
@@ -291,9 +362,6 @@ fn wants(rule: &Rule) -> [Want; 4] {
             wants[blank] = want;
         }
     };
-    for &blank in &rule.unnamed {
-        narrow(&mut wants, &settled, blank, Want::Existing);
-    }
     for condition in &rule.conditions {
         narrow(&mut wants, &settled, condition.object, Want::Existing);
         narrow(
@@ -337,10 +405,15 @@ pub fn likely_run(random: &mut Random, rules: &[Rule], matrix: &Bounded) -> (u8,
     let rule = &rules[number];
     let wants = wants(rule);
     let mut actuals = [255; 4];
+    let mut given = Vec::new();
     for blank in 0..rule.blanks {
+        if rule.spare.contains(&blank) {
+            actuals[blank] = job_number(random);
+            continue;
+        }
         // Two blanks may get the same name.
-        if blank > 0 && random.percent(15) {
-            actuals[blank] = actuals[random.below(blank)];
+        if !given.is_empty() && random.percent(15) {
+            actuals[blank] = random.pick(&given);
             continue;
         }
         let fitting: Vec<u8> = (0..NAMES as u8)
@@ -355,6 +428,7 @@ pub fn likely_run(random: &mut Random, rules: &[Rule], matrix: &Bounded) -> (u8,
         } else {
             random.pick(&fitting)
         };
+        given.push(actuals[blank]);
     }
     (number as u8, actuals)
 }
@@ -367,10 +441,13 @@ pub fn any_run(random: &mut Random, rules: &[Rule]) -> (u8, [u8; 4]) {
         2 => 255,
         _ => random.below(rules.len().max(1)) as u8,
     };
-    let blanks = rules.get(number as usize).map_or(2, |rule| rule.blanks);
+    let rule = rules.get(number as usize);
+    let blanks = rule.map_or(2, |rule| rule.blanks);
     let mut actuals = [255; 4];
     for (position, actual) in actuals.iter_mut().enumerate() {
-        if position < blanks {
+        if rule.is_some_and(|rule| rule.spare.contains(&position)) {
+            *actual = job_number(random);
+        } else if position < blanks {
             *actual = match random.below(12) {
                 0 => 30,
                 1 => 31,
@@ -454,6 +531,7 @@ pub fn small(random: &mut Random) -> Draft {
     }
     // The order of the rules is part of the judge's answer.
     random.shuffle(&mut draft.rules);
+    draft.spread_spares(random);
     draft
 }
 
@@ -539,6 +617,7 @@ pub fn large(random: &mut Random) -> (Draft, u8) {
     if rights > 2 && random.percent(40) {
         closing(random, &mut draft, right);
     }
+    draft.spread_spares(random);
     (draft, right)
 }
 
@@ -595,6 +674,13 @@ fn closing(random: &mut Random, draft: &mut Draft, right: u8) {
 /// right walks down a chain of names, one name a round, and hands over to the
 /// next token right at the chain's end. The rules of later tokens come first.
 pub fn chain(random: &mut Random) -> (Draft, u8) {
+    let (mut draft, right) = walks(random);
+    draft.spread_spares(random);
+    (draft, right)
+}
+
+/// The chain, its rules without spare blanks.
+fn walks(random: &mut Random) -> (Draft, u8) {
     let rights = random.between(4, 8) as u8;
     let mut draft = Draft::empty(rights);
     let names = random.pick(&[2, 4, 8, 12, 16, 20, 25, 29, 30, 30]);
@@ -633,19 +719,14 @@ pub fn chain(random: &mut Random) -> (Draft, u8) {
     for token in (0..tokens).rev() {
         // Which blank is slowest changes the order within a round.
         let (from, to) = random.pick(&[(1, 0), (1, 0), (0, 1)]);
-        let blanks = if random.percent(4) && names <= 12 {
-            3
-        } else {
-            2
-        };
         if token + 1 < tokens {
             let conditions = [[token, from, from], [end, from, to]];
             let steps = [[ENTER, token + 1, to, to]];
-            draft.rules.push(rule(blanks, &conditions, &steps));
+            draft.rules.push(rule(2, &conditions, &steps));
         }
         let conditions = [[token, from, from], [link, from, to]];
         let steps = [[ENTER, token, to, to]];
-        draft.rules.push(rule(blanks, &conditions, &steps));
+        draft.rules.push(rule(2, &conditions, &steps));
     }
 
     // What the last token's arrival at the end allows.
@@ -714,7 +795,7 @@ pub fn chain(random: &mut Random) -> (Draft, u8) {
 /// The same with rules by which a round does many steps: a token lets a right
 /// into a whole row, a column, or a triangle, and names be created late.
 pub fn busy_chain(random: &mut Random) -> (Draft, u8) {
-    let (mut draft, seal) = chain(random);
+    let (mut draft, seal) = walks(random);
     let (tokens, link) = (draft.rights - 3, draft.rights - 1);
     for _ in 0..random.between(2, 6) {
         if draft.rules.len() == 32 {
@@ -744,5 +825,6 @@ pub fn busy_chain(random: &mut Random) -> (Draft, u8) {
         let place = random.below(draft.rules.len() + 1);
         draft.rules.insert(place, section);
     }
+    draft.spread_spares(random);
     (draft, seal)
 }

@@ -12,6 +12,8 @@ pub struct Account {
     /// `SAFE`, `UNSAFE` or the refusal.
     pub code: u8,
     pub steps: u64,
+    /// Steps of rules with spare blanks among them.
+    pub spare: u64,
     pub rounds: u64,
     /// Unsafe by a delete and an enter after the rounds.
     pub closing: bool,
@@ -28,6 +30,7 @@ pub fn judge(file: &[u8], right: u8, buffer: &mut [u8]) -> Account {
     let refused = |code: u8| Account {
         code,
         steps: 0,
+        spare: 0,
         rounds: 0,
         closing: false,
     };
@@ -47,13 +50,21 @@ pub fn judge(file: &[u8], right: u8, buffer: &mut [u8]) -> Account {
     if buffer.len() < 5 * most_steps(&contents) {
         return refused(24);
     }
-    search(&contents, right, &mut Listing { buffer, steps: 0 })
+    let mut listing = Listing {
+        rules: &contents.rules,
+        buffer,
+        steps: 0,
+        spare: 0,
+    };
+    search(&contents, right, &mut listing)
 }
 
 /// The steps written so far, at the buffer's front.
 struct Listing<'a> {
+    rules: &'a [Rule],
     buffer: &'a mut [u8],
     steps: u64,
+    spare: u64,
 }
 
 impl Listing<'_> {
@@ -62,6 +73,7 @@ impl Listing<'_> {
         self.buffer[at] = rule as u8;
         self.buffer[at + 1..at + 5].copy_from_slice(&actuals.map(|actual| actual as u8));
         self.steps += 1;
+        self.spare += u64::from(!self.rules[rule].spare.is_empty());
     }
 }
 
@@ -112,6 +124,7 @@ fn search(contents: &Contents, right: u8, listing: &mut Listing) -> Account {
                     return Account {
                         code: UNSAFE,
                         steps: listing.steps,
+                        spare: listing.spare,
                         rounds,
                         closing: false,
                     };
@@ -127,6 +140,7 @@ fn search(contents: &Contents, right: u8, listing: &mut Listing) -> Account {
     Account {
         code: if closing { UNSAFE } else { SAFE },
         steps: listing.steps,
+        spare: listing.spare,
         rounds,
         closing,
     }
@@ -194,10 +208,13 @@ fn first_allowed(
     None
 }
 
-/// The names 0 to 31 for each blank, 255 for each position from k on.
+/// The names 0 to 31 for each blank, 0 alone for a spare one, 255 for each
+/// position from k on.
 fn all_names(rule: &Rule) -> [Vec<u64>; 4] {
     std::array::from_fn(|position| {
-        if position < rule.blanks {
+        if rule.spare.contains(&position) {
+            vec![0]
+        } else if position < rule.blanks {
             (0..NAMES as u64).collect()
         } else {
             vec![255]

@@ -1,6 +1,7 @@
 //! Reference implementation of the access matrix, its house file, its machine
-//! and its leak judge, written from document 01 alone, and what the test
-//! programs need to compare it with the verified library.
+//! and its leak judge, written from document 01 and the requests of document 02
+//! alone, and what the test programs need to compare it with the verified
+//! library.
 
 pub mod brute;
 pub mod damage;

@@ -164,7 +164,7 @@ pub struct Done<M> {
     pub leaked: u8,
 }
 
-/// One rule run: the state after it, or its refusal 11 to 15.
+/// One rule run: the state after it, or its refusal 11, 12, 14 or 15.
 pub fn run<M: AccessMatrix>(
     before: &M,
     rules: &[Rule],
@@ -175,17 +175,16 @@ pub fn run<M: AccessMatrix>(
         return Err(11);
     };
     for (position, &actual) in actuals.iter().enumerate() {
+        // A spare blank takes whatever it is given, and nothing reads it.
+        if rule.spare.contains(&position) {
+            continue;
+        }
         let used = position < rule.blanks;
         if used && M::HIGHEST.is_some_and(|highest| actual > highest) {
             return Err(12);
         }
         if !used && actual != 255 {
             return Err(12);
-        }
-    }
-    for &blank in &rule.unnamed {
-        if !before.exists(actuals[blank]) {
-            return Err(13);
         }
     }
     for condition in &rule.conditions {

@@ -83,10 +83,16 @@ impl Said {
         self.status == Some(2) && self.out.lines().any(|line| line.starts_with(&start))
     }
 
-    /// Something else went wrong, which a sentence tells.
+    /// Something else went wrong, which a sentence tells, with what to do.
     pub fn stopped(&self, because: &str) -> bool {
-        self.status == Some(3) && self.out.is_empty() && self.err.contains(because)
+        let told = self.err.contains(because) && advises(&self.err);
+        self.status == Some(3) && self.out.is_empty() && told
     }
+}
+
+/// What went wrong comes with what to do.
+pub fn advises(err: &str) -> bool {
+    err.contains("\n = hint: ")
 }
 
 pub fn says_done(out: &str) -> bool {

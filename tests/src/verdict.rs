@@ -2,6 +2,7 @@
 //! document 01 demands of them.
 
 use crate::file;
+use crate::generate::job_number;
 use crate::judge::{judge, most_steps, Account, SAFE, UNSAFE};
 use crate::random::Random;
 use crate::replay::{play_unbounded, Outcome, LEAK};
@@ -22,11 +23,13 @@ pub fn needed(file: &[u8]) -> usize {
 }
 
 /// Calls the judge under test; the file must keep its bytes. Demands of the
-/// steps that they replay, leak where they must, keep the bound, and that the
-/// bytes behind them are those from before. The reference judge has no part.
+/// steps that they replay, leak where they must, keep the bound, have 0 in spare
+/// blanks and replay with other bytes there too, and that the bytes behind them
+/// are those from before. The reference judge has no part.
 fn call(
     group: &mut Group,
     under_test: Library,
+    random: &mut Random,
     file: &[u8],
     right: u8,
     buffer: &mut [u8],
@@ -87,6 +90,32 @@ fn call(
             about()
         )
     });
+    let mut numbered = buffer[..end].to_vec();
+    let mut zeros = true;
+    for step in numbered.chunks_exact_mut(5) {
+        let Some(rule) = contents.rules.get(step[0] as usize) else {
+            continue;
+        };
+        for &blank in &rule.spare {
+            zeros &= step[1 + blank] == 0;
+            step[1 + blank] = job_number(random);
+        }
+    }
+    group.demand(zeros, || {
+        format!(
+            "not 0 in a spare blank of the steps {}: {}",
+            hex(&buffer[..end]),
+            about()
+        )
+    });
+    let replayed = (under_test.replay)(file, &numbered, right);
+    group.demand(replayed == wanted, || {
+        format!(
+            "the library replays {} as {replayed:?}: {}",
+            hex(&numbered),
+            about()
+        )
+    });
     (code, steps)
 }
 
@@ -103,7 +132,7 @@ pub fn compare(
     let mut given = random.bytes(length);
     let mut wanted = given.clone();
     let account = judge(file, right, &mut wanted);
-    let answer = call(group, under_test, file, right, &mut given);
+    let answer = call(group, under_test, random, file, right, &mut given);
     group.input(
         answer == (account.code, account.steps) && given == wanted,
         || {

@@ -71,13 +71,23 @@ fn run(arguments: &Arguments, view: &View) -> Result<Answer, Failure> {
         ..Answer::default()
     };
     for (option, content) in outputs(arguments, &input, content, &verdicts)? {
-        let path = arguments.value(option).unwrap_or_default();
-        match write(path, &content, arguments.has("--force")) {
-            Ok(notes) => answer.notes.extend(notes),
-            Err(failure) => answer.failures.push(failure),
-        }
+        put(&mut answer, arguments, option, content);
     }
     Ok(answer)
+}
+
+/// Writes what an option asks for, if there is something, and says so.
+fn put(answer: &mut Answer, arguments: &Arguments, option: &str, content: Option<Vec<u8>>) {
+    let path = arguments.value(option).unwrap_or_default();
+    let Some(content) = content else {
+        let path = input::shown(path);
+        let note = format!("{path} was not written: a refused question has no steps");
+        return answer.notes.push(note);
+    };
+    match write(path, &content, arguments.has("--force")) {
+        Ok(notes) => answer.notes.extend(notes),
+        Err(failure) => answer.failures.push(failure),
+    }
 }
 
 /// The rights that are given, or every right.
@@ -101,13 +111,15 @@ fn status(verdict: &Verdict) -> u8 {
     }
 }
 
-/// What is to be written, by the option that asks for it.
+/// What is to be written, if anything, by the option that asks for it.
+type Outputs = Vec<(&'static str, Option<Vec<u8>>)>;
+
 fn outputs(
     arguments: &Arguments,
     input: &Input,
     content: &Content,
     verdicts: &[Verdict],
-) -> Result<Vec<(&'static str, Vec<u8>)>, Failure> {
+) -> Result<Outputs, Failure> {
     let mut outputs = Vec::new();
     if arguments.has("--trace") {
         let [verdict] = verdicts else {
@@ -117,15 +129,17 @@ fn outputs(
                 advice,
             ));
         };
-        outputs.push(("--trace", verdict.trace.clone()));
+        // An empty trace would be replayed without a leak.
+        let refused = matches!(verdict.ruling, Ruling::Refused(_));
+        outputs.push(("--trace", (!refused).then(|| verdict.trace.clone())));
     }
     if arguments.has("--svg") {
         let svg = picture::svg(&input.path, content, verdicts);
-        outputs.push(("--svg", svg.into_bytes()));
+        outputs.push(("--svg", Some(svg.into_bytes())));
     }
     if arguments.has("--report") {
         let page = report::page(&input.path, content, verdicts);
-        outputs.push(("--report", page.into_bytes()));
+        outputs.push(("--report", Some(page.into_bytes())));
     }
     Ok(outputs)
 }

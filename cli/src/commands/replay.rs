@@ -4,12 +4,13 @@ use super::{Answer, Command, View, GOOD, LEAK, NAMES, REFUSED};
 use crate::arguments::Arguments;
 use crate::count::count;
 use crate::failure::Failure;
+use crate::house::Rule;
 use crate::input::{self, Content};
 use crate::json::Json;
 use crate::library::{self, Replay};
 use crate::limits::STEP_BYTES;
 use crate::reasons;
-use crate::story::{self, carry_out, leak, Done};
+use crate::story::{self, carry_out, leak, Done, Jobs};
 use crate::terminal::{padded, width, Style};
 use crate::trace::{self, Step};
 use crate::verdict::text;
@@ -32,7 +33,7 @@ pub const COMMAND: Command = Command {
 fn run(arguments: &Arguments, view: &View) -> Result<Answer, Failure> {
     let (path, trace) = (&arguments.plain[0], &arguments.plain[1]);
     let input = input::read(path, arguments.value("--names"))?;
-    let trace = trace::read(input::bytes(trace)?, &input::shown(trace))?;
+    let trace = trace::read(input::whole(trace)?, &input::shown(trace))?;
     let content = match &input.content {
         Ok(content) => content,
         Err(refusal) => return Ok(super::refused(&input, *refusal, view)),
@@ -46,18 +47,23 @@ fn run(arguments: &Arguments, view: &View) -> Result<Answer, Failure> {
         .map(|&right| (right, library::replay(&input.file, &trace, right)))
         .collect();
     let told = Told::of(&input.file, &trace, content);
-    let answers = replays.iter().map(|one| told.replay_json(*one));
-    Ok(Answer {
+    let mut answer = Answer {
         status: replays.iter().map(status).max().unwrap_or(GOOD),
-        text: told.text(&replays, view.style).into_bytes(),
-        json: vec![
+        ..Answer::default()
+    };
+    // A log may have a million steps, and one of the two is enough.
+    if arguments.has("--json") {
+        let answers = replays.iter().map(|one| told.replay_json(*one));
+        answer.json = vec![
             ("input", input.json()),
             ("answer", "replayed".into()),
             ("replays", answers.collect()),
             ("steps", told.steps_json()),
-        ],
-        ..Answer::default()
-    })
+        ];
+    } else {
+        answer.text = told.text(&replays, view.style).into_bytes();
+    }
+    Ok(answer)
 }
 
 fn status((_, replay): &(u8, Replay)) -> u8 {
@@ -70,7 +76,7 @@ fn status((_, replay): &(u8, Replay)) -> u8 {
 
 /// The steps of a trace as far as they can be done, and why the next one cannot.
 struct Told<'a> {
-    words: &'a Words,
+    content: &'a Content,
     bytes: usize,
     done: Vec<Done>,
     stopped: Option<(Step, u8, Option<String>)>,
@@ -82,7 +88,7 @@ impl Told<'_> {
         let mut file = file.to_vec();
         let mut house = content.house.clone();
         let mut told = Told {
-            words,
+            content,
             bytes: trace.len(),
             done: Vec::new(),
             stopped: None,
@@ -91,11 +97,8 @@ impl Told<'_> {
             return told;
         }
         for step in trace::steps(trace) {
-            match carry_out(&mut file, step) {
-                Ok(done) => {
-                    house.matrix = done.after.clone();
-                    told.done.push(done);
-                }
+            match carry_out(&mut file, &mut house, step) {
+                Ok(done) => told.done.push(done),
                 Err(refusal) => {
                     let reason = reasons::reason(&house, words, step, refusal);
                     told.stopped = Some((step, refusal, reason));
@@ -114,18 +117,18 @@ impl Told<'_> {
                 count(self.bytes, "byte")
             ),
         };
-        for line in text::steps(self.words, &self.done) {
+        for line in text::steps(self.content, &self.done, Jobs::Told) {
             text += &format!("  {line}\n");
         }
         if let Some((step, refusal, reason)) = &self.stopped {
-            let call = story::call(self.words, *step);
+            let call = story::call(self.words(), self.rules(), *step, Jobs::Told);
             let reason = reason.as_deref().unwrap_or(refusals::of(*refusal).meaning);
             let refused = style.warn(&format!("REFUSED {refusal}"));
             text += &format!("  {}. {call}  {refused}: {reason}\n", self.done.len() + 1);
         }
         let rights: Vec<String> = replays
             .iter()
-            .map(|(right, _)| self.words.right(usize::from(*right)))
+            .map(|(right, _)| self.words().right(usize::from(*right)))
             .collect();
         let margin = rights.iter().map(|right| width(right)).max().unwrap_or(0);
         for ((right, replay), word) in replays.iter().zip(&rights) {
@@ -141,7 +144,7 @@ impl Told<'_> {
             Replay::Leak(step) => {
                 let into = match self.leak(right, step) {
                     Some((_, subject, object)) => {
-                        format!(", into {}", self.words.cell(subject, object))
+                        format!(", into {}", self.words().cell(subject, object))
                     }
                     None => String::new(),
                 };
@@ -158,6 +161,14 @@ impl Told<'_> {
         }
     }
 
+    fn words(&self) -> &Words {
+        &self.content.words
+    }
+
+    fn rules(&self) -> &[Rule] {
+        &self.content.house.rules
+    }
+
     /// The cell that a right leaks into at a step.
     fn leak(&self, right: u8, step: u64) -> Option<(usize, usize, usize)> {
         let done = self.done.get(usize::try_from(step).ok()?)?;
@@ -165,7 +176,7 @@ impl Told<'_> {
     }
 
     fn replay_json(&self, (right, replay): (u8, Replay)) -> Json {
-        let mut fields = vec![("right", labels::right(self.words, usize::from(right)))];
+        let mut fields = vec![("right", labels::right(self.words(), usize::from(right)))];
         match replay {
             Replay::NoLeak => fields.push(("replay", "no leak".into())),
             Replay::Leak(step) => {
@@ -174,7 +185,7 @@ impl Told<'_> {
                 fields.push(("step", Json::Number(step)));
                 fields.push((
                     "leak",
-                    leak.map_or(Json::Null, |held| labels::held(self.words, held)),
+                    leak.map_or(Json::Null, |held| labels::held(self.words(), held)),
                 ));
             }
             Replay::Refused { by, step } => {
@@ -190,10 +201,10 @@ impl Told<'_> {
         let mut steps: Vec<Json> = self
             .done
             .iter()
-            .map(|done| labels::done(self.words, done))
+            .map(|done| labels::done(self.words(), self.rules(), done))
             .collect();
         if let Some((step, refusal, reason)) = &self.stopped {
-            let mut fields = labels::call(self.words, *step);
+            let mut fields = labels::call(self.words(), self.rules(), *step);
             fields.push(("refusal", usize::from(*refusal).into()));
             fields.push(("reason", reason.clone().into()));
             steps.push(Json::Object(fields));

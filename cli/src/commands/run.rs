@@ -3,14 +3,15 @@
 use super::{Answer, Command, View, GOOD, NAMES, NO_WAIT, REFUSED};
 use crate::arguments::{Arguments, Choice};
 use crate::failure::Failure;
+use crate::house::Rule;
 use crate::input::{self, Content};
 use crate::json::Json;
 use crate::limits::{BLANKS, UNUSED};
 use crate::refused::{self, BadFile};
 use crate::replace::{self, Edit, Options, Outcome};
-use crate::story::{self, carry_out, Done};
+use crate::story::{self, carry_out, Done, Jobs};
 use crate::trace::Step;
-use crate::words::Words;
+use crate::words::job_number;
 use crate::{labels, reasons, table};
 use std::ffi::{OsStr, OsString};
 use std::path::{Path, PathBuf};
@@ -19,7 +20,8 @@ pub const COMMAND: Command = Command {
     name: "run",
     usage: "FILE RULE NAME..",
     summary: "one rule run on a house file, in place",
-    about: "Rule and names are given by number, or by word with --names. DONE is printed when the new file is on the\n\
+    about: "Rule and names are given by number, or by word with --names. A blank that no condition and no step of the\n\
+            rule names takes any number from 0 to 255, as a job number. DONE is printed when the new file is on the\n\
             device; at every moment the file is the old one or the new one. A refused run changes nothing, a killed\n\
             one leaves nothing that blocks the next. The file is written first, its log second; where a run is killed\n\
             in between, the next run on the file, with --log or without, adds the step and says so.",
@@ -47,8 +49,8 @@ pub const COMMAND: Command = Command {
 /// What came of the run, told under the lock.
 enum Came {
     BadFile(BadFile),
-    Refused(Words, Step, u8, Option<String>),
-    Done(Words, Done),
+    Refused(Content, Step, u8, Option<String>),
+    Done(Content, Done),
 }
 
 fn run(arguments: &Arguments, view: &View) -> Result<Answer, Failure> {
@@ -105,33 +107,39 @@ fn try_on(file: &[u8], arguments: &Arguments) -> Result<(Option<Edit>, Came), Fa
             advice,
         ));
     }
-    let Content { house, words } = match input::content(file, arguments.value("--names"))? {
+    let mut content = match input::content(file, arguments.value("--names"))? {
         Ok(content) => content,
         Err(refusal) => return Ok((None, Came::BadFile(BadFile::new(file, refusal)))),
     };
-    let step = step(&arguments.plain[1..], &words)?;
+    let step = step(&arguments.plain[1..], &content)?;
     let mut new = file.to_vec();
-    Ok(match carry_out(&mut new, step) {
+    Ok(match carry_out(&mut new, &mut content.house, step) {
         Ok(done) => {
             let log = Some(step.bytes());
             (
                 Some(Edit::Write { file: new, log }),
-                Came::Done(words, done),
+                Came::Done(content, done),
             )
         }
         Err(refusal) => {
-            let reason = reasons::reason(&house, &words, step, refusal);
-            (None, Came::Refused(words, step, refusal, reason))
+            let reason = reasons::reason(&content.house, &content.words, step, refusal);
+            (None, Came::Refused(content, step, refusal, reason))
         }
     })
 }
 
 /// The rule run that the words say. Whether the names are as many as the rule's blanks, the library says.
-fn step(given: &[OsString], words: &Words) -> Result<Step, Failure> {
+fn step(given: &[OsString], content: &Content) -> Result<Step, Failure> {
+    let Content { house, words } = content;
     let rule = words.rule_number(&given[0])?;
+    let number = usize::from(rule);
+    let spare = house.rules.get(number).map_or(Vec::new(), Rule::spare);
     let mut actuals = [UNUSED; BLANKS];
-    for (actual, name) in actuals.iter_mut().zip(&given[1..]) {
-        *actual = words.name_number(name)?;
+    for (blank, text) in given[1..].iter().enumerate() {
+        actuals[blank] = match spare.contains(&blank) {
+            true => job_number(text, &words.rules[number].blanks[blank])?,
+            false => words.name_number(text)?,
+        };
     }
     Ok(Step { rule, actuals })
 }
@@ -146,28 +154,30 @@ fn told(came: Came, arguments: &Arguments, view: &View) -> Answer {
             json.extend(bad.json());
             answer(REFUSED, bad.lines(&path, view.style), json)
         }
-        Came::Refused(words, step, refusal, reason) => {
+        Came::Refused(content, step, refusal, reason) => {
+            let Content { house, words } = &content;
             let mut text = refused::headline(refusal, view.style);
-            text += &format!("  {}\n", story::call(&words, step));
+            text += &format!("  {}\n", story::call(words, &house.rules, step, Jobs::Told));
             text += &reason
                 .as_ref()
                 .map_or(String::new(), |reason| format!("  {reason}\n"));
             json.push(("answer", "refused".into()));
             json.extend(refused::fields(refusal));
             json.push(("reason", reason.into()));
-            json.extend(labels::call(&words, step));
+            json.extend(labels::call(words, &house.rules, step));
             answer(REFUSED, text, json)
         }
-        Came::Done(words, done) => {
+        Came::Done(content, done) => {
+            let Content { house, words } = &content;
             let head = if dry {
                 "DRY RUN, nothing written"
             } else {
                 "DONE"
             };
-            let text = format!("{}\n{}", view.style.good(head), told_acts(&words, &done));
-            let acts = done.acts.iter().map(|act| labels::act(&words, act));
+            let text = format!("{}\n{}", view.style.good(head), told_acts(&content, &done));
+            let acts = done.acts.iter().map(|act| labels::act(words, act));
             json.push(("answer", "done".into()));
-            json.extend(labels::call(&words, done.step));
+            json.extend(labels::call(words, &house.rules, done.step));
             json.push(("acts", acts.collect()));
             answer(GOOD, text, json)
         }
@@ -175,9 +185,11 @@ fn told(came: Came, arguments: &Arguments, view: &View) -> Answer {
 }
 
 /// The rule with its names, and what each of its operations did.
-fn told_acts(words: &Words, done: &Done) -> String {
+fn told_acts(content: &Content, done: &Done) -> String {
+    let Content { house, words } = content;
     let acts = done.acts.iter().map(|act| story::clause(words, act));
-    let lines = [story::call(words, done.step)].into_iter().chain(acts);
+    let call = story::call(words, &house.rules, done.step, Jobs::Told);
+    let lines = [call].into_iter().chain(acts);
     lines.map(|line| format!("  {line}\n")).collect()
 }
 

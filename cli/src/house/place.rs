@@ -79,7 +79,7 @@ fn header(file: &[u8]) -> Result<(), Fault> {
     }
     if length > FILE_BYTES {
         let allowed = format!("the end: a file has at most {FILE_BYTES} bytes");
-        let found = format!("a file of {length} bytes");
+        let found = format!("one more byte, {}", file[FILE_BYTES]);
         return Err(fault(1, "end of the file", FILE_BYTES, found, allowed));
     }
     let most = FIXED_SECTIONS + RULES;

@@ -156,15 +156,30 @@ pub fn escaped(text: &str) -> String {
     escaped
 }
 
-/// About how many pixels a text takes at a size, in bold letters; rather more than less.
+/// How many pixels a text takes at a size, in bold letters of the widest of the fonts above; rather more than less.
 pub fn measure(text: &str, size: usize) -> usize {
-    let hundredths = |character: char| match character {
-        'i' | 'j' | 'l' | 't' | 'f' | 'r' | ' ' | '.' | ',' | '(' | ')' | '-' | '\'' => 44,
-        'm' | 'w' | 'M' | 'W' => 104,
-        _ if character.is_uppercase() || character.is_ascii_digit() => 76,
-        _ if character.is_ascii() => 69,
-        _ => 70 * terminal::width(&character.to_string()),
-    };
     let total: usize = text.chars().map(hundredths).sum();
     (total * size).div_ceil(100)
+}
+
+/// What a character takes of the size.
+fn hundredths(character: char) -> usize {
+    match character {
+        'i' | 'j' | 'l' | 'I' | 'J' | ' ' | '.' | ',' | '\'' | '|' | '/' | '\\' => 38,
+        'f' | 'r' | 't' | '-' | '(' | ')' | '[' | ']' | '!' | ':' | ';' => 50,
+        'm' | 'w' | 'M' | '%' | '@' => 105,
+        'W' => 111,
+        '&' | '#' | '+' | '<' | '=' | '>' | '^' | '~' => 88,
+        'D' | 'G' | 'H' | 'N' | 'O' | 'Q' | 'U' => 88,
+        'A'..='Z' => 78,
+        _ if character.is_ascii() => 72,
+        'Æ' | 'æ' | 'Œ' | 'œ' => 120,
+        // Latin letters with accents.
+        '\u{C0}'..='\u{17F}' => 90,
+        _ => match terminal::width(character.encode_utf8(&mut [0; 4])) {
+            0 => 0,
+            1 => 135,
+            _ => 140,
+        },
+    }
 }

@@ -1,10 +1,11 @@
 //! Where names, cells and rights stand in a picture of the matrix.
 
 use super::canvas::measure;
-use crate::house::{Kind, Matrix};
+use crate::house::{Kind, Matrix, Rule};
 use crate::input::Content;
 use crate::machine::{Act, Held};
 use crate::story::Done;
+use crate::trace::Given;
 use std::collections::BTreeMap;
 
 pub const LINE: usize = 22;
@@ -63,7 +64,7 @@ pub fn layout(content: &Content, steps: &[Done]) -> Layout {
     names.sort_unstable();
     let all = names.len();
     if all > MOST_NAMES && !steps.is_empty() {
-        let taking_part = taking_part(steps);
+        let taking_part = taking_part(&content.house.rules, steps);
         names.retain(|name| taking_part.contains(name));
     }
     let subjects: Vec<usize> = names
@@ -100,8 +101,14 @@ fn created(steps: &[Done]) -> Created {
     created
 }
 
-fn taking_part(steps: &[Done]) -> Vec<usize> {
-    steps.iter().flat_map(|done| done.step.names()).collect()
+/// The names in the blanks that conditions and steps name.
+fn taking_part(rules: &[Rule], steps: &[Done]) -> Vec<usize> {
+    let given = steps.iter().flat_map(|done| done.step.given(rules));
+    let names = given.filter_map(|given| match given {
+        Given::Name(name) => Some(name),
+        Given::Job(_) => None,
+    });
+    names.collect()
 }
 
 /// The rights of the start and those that steps enter or delete, by cell.

@@ -134,7 +134,7 @@ fn draw(canvas: &mut Canvas, entry: &Entry, word: &str, wanted: Option<&'static 
 /// From what the conditions of a step go by to what the step enters.
 fn arrows(canvas: &mut Canvas, layout: &Layout, content: &Content, steps: &[Done]) {
     for (i, done) in steps.iter().enumerate() {
-        let names = done.step.names();
+        let names = done.step.actuals.map(usize::from);
         let rule = &content.house.rules[usize::from(done.step.rule)];
         let class = if i + 1 == steps.len() { "-bad" } else { "" };
         let entered = done.acts.iter().filter_map(|act| match act {

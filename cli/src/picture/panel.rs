@@ -5,7 +5,7 @@ use super::layout::{DISC, LINE, PAD};
 use super::matrix::{matrix, Aim};
 use crate::input::Content;
 use crate::machine::Act;
-use crate::story;
+use crate::story::{self, Jobs};
 use crate::verdict::{text, Leak, Ruling, Verdict};
 
 /// Steps that are listed, from the first and up to the last; the printed answer has all.
@@ -75,7 +75,7 @@ fn list(canvas: &mut Canvas, content: &Content, leak: &Leak) {
         }
         let y = canvas.height + 8;
         canvas.count(PAD + 10, y - 4, disc(leak, i), i + 1);
-        let call = story::call(words, done.step);
+        let call = story::call(words, &content.house.rules, done.step, Jobs::LeftOut);
         let sentence = story::sentence(words, &done.acts);
         canvas.texts(PAD + DISC + 4, y, &[("name", &call), ("", &sentence)]);
         canvas.widen(PAD + DISC + measure(&call, 13) + measure(&sentence, 13));

@@ -2,7 +2,7 @@
 
 use super::liken::{liken, liken_roughly, Lost};
 use super::log::Log;
-use super::place::{sync_folder, why, Place};
+use super::place::{remedy, sync_folder, why, Place};
 use super::record::Record;
 use super::Problem;
 use std::ffi::{c_char, c_int, CString};
@@ -34,9 +34,10 @@ impl Change<'_> {
         let synced = sync_folder(&place.path);
         let Some((mut log, step)) = logged else {
             let text = "the file was changed, but is not certain to be on the device";
+            let advice = "the rule was run: see to the device before you go on";
             return match synced {
                 Ok(()) => Ok(notes),
-                Err(wrong) => Err(place.failed(text, &wrong)),
+                Err(wrong) => Err(place.failed(text, &wrong, advice)),
             };
         };
         log.due();
@@ -44,9 +45,11 @@ impl Change<'_> {
             let log = log.given.display();
             let text = format!(
                 "the file was changed, but it or its step in {log} is not certain to be on the \
-                 device; the next run on this file sees to the step"
+                 device"
             );
-            place.failed(text, &wrong)
+            let advice = "the rule was run: see to the device before you go on; the next run on \
+                          this file sees to the step";
+            place.failed(text, &wrong, advice)
         })?;
         let removed = fs::remove_file(&place.record).and_then(|()| sync_folder(&place.path));
         if let Err(wrong) = removed {
@@ -66,13 +69,15 @@ impl Change<'_> {
             place.failed(
                 format!("its {} cannot be kept, so nothing was changed", lost.what),
                 &lost.why,
+                format!(
+                    "ask one who may give a file this {}, as its owner",
+                    lost.what
+                ),
             )
         })?;
         let unwritten = |wrong: io::Error| {
-            place.failed(
-                "the new content cannot be written, so nothing was changed",
-                &wrong,
-            )
+            let text = "the new content cannot be written, so nothing was changed";
+            place.failed(text, &wrong, remedy(&wrong))
         };
         fill(new, self.file).map_err(unwritten)?;
         if let Some((log, step)) = logged {
@@ -80,10 +85,8 @@ impl Change<'_> {
         }
         self.untouched()?;
         fs::rename(&place.new, &place.path).map_err(|wrong| {
-            place.failed(
-                "the new content cannot get its name, so nothing was changed",
-                &wrong,
-            )
+            let text = "the new content cannot get its name, so nothing was changed";
+            place.failed(text, &wrong, remedy(&wrong))
         })?;
         Ok(lost.into_iter().map(|lost| self.note(lost)).collect())
     }
@@ -126,7 +129,7 @@ impl Change<'_> {
             ""
         };
         let text = format!("its {} could not be kept{yours}", lost.what);
-        self.place.failed(text, &lost.why).message
+        self.place.failed(text, &lost.why, "").message + "."
     }
 }
 
@@ -138,15 +141,20 @@ pub fn make(place: &Place, content: &[u8]) -> Result<(), Problem> {
         let _ = fs::remove_file(&place.new);
         return Err(match wrong.kind() {
             ErrorKind::AlreadyExists => {
-                place.about("there is a file of this name now; --force replaces it.")
+                place.about("there is a file of this name now", "--force replaces it")
             }
-            _ => place.failed("it cannot be written, and was not made", &wrong),
+            _ => {
+                let text = "it cannot be written, and was not made";
+                place.failed(text, &wrong, remedy(&wrong))
+            }
         });
     }
     sync_folder(&place.path).map_err(|wrong| {
+        let text = "it was made, but is not certain to be on the device";
         place.failed(
-            "it was made, but is not certain to be on the device",
+            text,
             &wrong,
+            "see to the device, and make it again with --force",
         )
     })
 }

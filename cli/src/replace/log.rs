@@ -2,8 +2,11 @@
 
 use super::hold::{same, NO_FOLLOW, NO_WAIT};
 use super::liken::liken_roughly;
-use super::place::{resolve, sort, sync_folder, why, Resolved};
+use super::place::{remedy, resolve, sort, sync_folder, why, Resolved};
 use super::Problem;
+use crate::library;
+use crate::limits::{FILE_BYTES, STEP_BYTES};
+use crate::trace::steps;
 use std::ffi::c_int;
 use std::fs::{self, File, Metadata, OpenOptions};
 use std::io::{self, ErrorKind, Write};
@@ -20,7 +23,9 @@ const KEEP_SIZE: c_int = 1;
 /// No room on the device, or for this user; a file system without reservations says something else.
 const NO_ROOM: [i32; 2] = [28, 122];
 
-pub const STEP: u64 = 5;
+const STEP: u64 = STEP_BYTES as u64;
+
+const ANOTHER: &str = "name another file with --log";
 
 pub struct Log {
     /// As the user named it, for messages.
@@ -45,9 +50,11 @@ impl Log {
     /// The log, with room for a step; made where it is not there, with the group and mode of the
     /// file it goes with.
     pub fn open(given: &Path, with: &Metadata) -> Result<Log, Problem> {
-        let about = |text: String| Problem::about(given, text);
         let path = find(given, with)?;
-        let cannot = |wrong| about(format!("the log cannot be written: {}.", why(&wrong)));
+        let cannot = |wrong| {
+            let text = format!("the log cannot be written: {}", why(&wrong));
+            Problem::about(given, text, remedy(&wrong))
+        };
         let (file, vain) = open_or_make(&path, with).map_err(cannot)?;
         let mut log = Log {
             given: given.to_path_buf(),
@@ -57,14 +64,34 @@ impl Log {
             vain,
         };
         log.before = log.reserve().map_err(cannot)?;
-        if log.before.is_multiple_of(STEP) {
-            return Ok(log);
+        match log.other().map_err(cannot)? {
+            None => Ok(log),
+            Some(text) => Err(Problem::about(given, text, ANOTHER)),
         }
-        Err(about(format!(
-            "{} bytes are no whole number of steps, 5 bytes each, so this is no log; \
-             name another with --log.",
-            log.before
-        )))
+    }
+
+    /// What it is if it is no log. A text begins with a letter, which is no rule's number, and a house file is one that
+    /// the library accepts: so neither is taken for a log by a slip.
+    fn other(&self) -> io::Result<Option<String>> {
+        if !self.before.is_multiple_of(STEP) {
+            return Ok(Some(format!(
+                "{} bytes are no whole number of steps, 5 bytes each, so this is no log",
+                self.before
+            )));
+        }
+        if self.before == 0 {
+            return Ok(None);
+        }
+        let mut front = vec![0; self.before.min(FILE_BYTES as u64 + 1) as usize];
+        self.file.read_exact_at(&mut front, 0)?;
+        let begins = steps(&front).first().is_some_and(|step| step.possible());
+        Ok(match (begins, library::check(&front)) {
+            (false, _) => {
+                Some("its first 5 bytes are no step of any rule, so this is no log".to_string())
+            }
+            (true, 0) => Some("this is a house file, and no log".to_string()),
+            (true, _) => None,
+        })
     }
 
     /// Room for a step, so that a full device is told before the file is changed. Its length now.
@@ -111,12 +138,12 @@ fn find(given: &Path, with: &Metadata) -> Result<PathBuf, Problem> {
     let Resolved { path, there } = resolve(given)?;
     let wrong = match there {
         Some(there) if same(&there, with) => {
-            "the log must be another file than the one that the rule is run on.".to_string()
+            "the log must be another file than the one that the rule is run on".to_string()
         }
-        Some(there) if !there.is_file() => format!("{}; the log must be a file.", sort(&there)),
+        Some(there) if !there.is_file() => format!("{}; the log must be a file", sort(&there)),
         _ => return Ok(path),
     };
-    Err(Problem::about(given, wrong))
+    Err(Problem::about(given, wrong, ANOTHER))
 }
 
 /// And whether it was made.
@@ -127,7 +154,14 @@ fn open_or_make(path: &Path, with: &Metadata) -> io::Result<(File, bool)> {
             liken_roughly(&file, with, with.mode());
             Ok((file, true))
         }
-        opened => Ok((opened?, false)),
+        opened => {
+            let file = opened?;
+            // Root may open it all the same.
+            match file.metadata()?.mode() & 0o222 {
+                0 => Err(ErrorKind::PermissionDenied.into()),
+                _ => Ok((file, false)),
+            }
+        }
     }
 }
 
@@ -160,7 +194,7 @@ pub fn mend(path: &Path, before: u64, step: [u8; 5]) -> io::Result<Mended> {
     let Some(behind) = there.len().checked_sub(before).filter(|_| there.is_file()) else {
         return Ok(Mended::Changed);
     };
-    let mut found = [0; STEP as usize];
+    let mut found = [0; STEP_BYTES];
     let found = &mut found[..behind.min(STEP) as usize];
     file.read_exact_at(found, before)?;
     if !step.starts_with(found) {

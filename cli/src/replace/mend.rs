@@ -3,7 +3,7 @@
 
 use super::hold::{NO_FOLLOW, NO_WAIT};
 use super::log::{self, Mended};
-use super::place::{sync_folder, Place, MOST};
+use super::place::{remedy, sync_folder, Place, MOST};
 use super::record::Record;
 use super::{Options, Problem};
 use std::fs::{self, File, OpenOptions};
@@ -18,10 +18,8 @@ extern "C" {
 pub fn mend(place: &Place, old: &File, options: &Options) -> Result<Vec<String>, Problem> {
     let mut notes = Vec::new();
     let cannot = |wrong: io::Error| {
-        place.failed(
-            "what a stopped run left beside it cannot be put right",
-            &wrong,
-        )
+        let text = "what a stopped run left beside it cannot be put right";
+        place.failed(text, &wrong, remedy(&wrong))
     };
     if let Some(left) = left(place).map_err(cannot)? {
         if left.hidden {
@@ -127,11 +125,14 @@ fn finish(place: &Place, record: &Record) -> Result<Option<String>, Problem> {
         Err(wrong) => {
             let text = format!(
                 "a run was stopped before its step was in {log}, and the step {step} cannot be \
-                 added now. See to it that the log can be written; or remove {}, and the log will \
-                 lack the step",
+                 added now"
+            );
+            let advice = format!(
+                "see to it that the log can be written; or remove {}, and the log will lack the \
+                 step",
                 place.record.display()
             );
-            Err(place.failed(text, &wrong))
+            Err(place.failed(text, &wrong, advice))
         }
     }
 }

@@ -20,30 +20,38 @@ pub struct Resolved {
 }
 
 pub fn resolve(given: &Path) -> Result<Resolved, Problem> {
-    let about =
-        |text: &str, wrong: &io::Error| Problem::about(given, format!("{text}{}.", why(wrong)));
+    let unreached = |wrong: &io::Error| {
+        Problem::about(
+            given,
+            why(wrong),
+            "give the path of a file that you can reach",
+        )
+    };
     match fs::canonicalize(given) {
         Ok(path) => {
-            let there = fs::symlink_metadata(&path).map_err(|wrong| about("", &wrong))?;
+            let there = fs::symlink_metadata(&path).map_err(|wrong| unreached(&wrong))?;
             return Ok(Resolved {
                 path,
                 there: Some(there),
             });
         }
         Err(wrong) if wrong.kind() == ErrorKind::NotFound => {}
-        Err(wrong) => return Err(about("", &wrong)),
+        Err(wrong) => return Err(unreached(&wrong)),
     }
     if fs::symlink_metadata(given).is_ok() {
-        return Err(Problem::about(
-            given,
-            "a symbolic link that leads to no file.",
-        ));
+        let text = "a symbolic link that leads to no file";
+        let advice = "let it lead to a file, or remove it";
+        return Err(Problem::about(given, text, advice));
     }
-    let (Some(name), Some(folder)) = (given.file_name(), given.parent()) else {
-        return Err(Problem::about(given, "this is no name of a file."));
+    let ended = given.as_os_str().as_encoded_bytes().ends_with(b"/");
+    let (Some(name), Some(folder), false) = (given.file_name(), given.parent(), ended) else {
+        let text = "this is no name of a file";
+        return Err(Problem::about(given, text, "give the path of a file"));
     };
-    let folder = fs::canonicalize(Path::new(".").join(folder))
-        .map_err(|wrong| about("its folder: ", &wrong))?;
+    let folder = fs::canonicalize(Path::new(".").join(folder)).map_err(|wrong| {
+        let text = format!("its folder: {}", why(&wrong));
+        Problem::about(given, text, "name a folder that is there, or make it first")
+    })?;
     Ok(Resolved {
         path: folder.join(name),
         there: None,
@@ -57,6 +65,20 @@ pub fn why(wrong: &io::Error) -> String {
         .next()
         .unwrap_or_default()
         .to_string()
+}
+
+/// What to do about what the system says.
+pub fn remedy(wrong: &io::Error) -> &'static str {
+    match wrong.kind() {
+        ErrorKind::PermissionDenied | ErrorKind::ReadOnlyFilesystem => {
+            "you need a file that you may write, in a folder in which you may make files"
+        }
+        ErrorKind::StorageFull | ErrorKind::QuotaExceeded => {
+            "make room on the device, and run it again"
+        }
+        ErrorKind::FileTooLarge => "raise the limit on the size of files, and run it again",
+        _ => "see to the file, its folder and the device, and run it again",
+    }
 }
 
 /// What is there that is no file.
@@ -92,7 +114,11 @@ impl Place<'_> {
     pub fn of(given: &Path) -> Result<Place<'_>, Problem> {
         let resolved = resolve(given)?;
         match resolved.there {
-            None => Err(Problem::about(given, "there is no file of this name.")),
+            None => {
+                let text = "there is no file of this name";
+                let advice = "give the path of a house file; tugcaphi make makes one of a table";
+                Err(Problem::about(given, text, advice))
+            }
             Some(there) => {
                 let place = Place::at(given, resolved.path);
                 place.regular(&there).map(|()| place)
@@ -116,12 +142,17 @@ impl Place<'_> {
         }
     }
 
-    pub fn about(&self, text: impl AsRef<str>) -> Problem {
-        Problem::about(self.given, text)
+    pub fn about(&self, text: impl AsRef<str>, advice: impl Into<String>) -> Problem {
+        Problem::about(self.given, text, advice)
     }
 
-    pub fn failed(&self, text: impl AsRef<str>, wrong: &io::Error) -> Problem {
-        self.about(format!("{}: {}.", text.as_ref(), why(wrong)))
+    pub fn failed(
+        &self,
+        text: impl AsRef<str>,
+        wrong: &io::Error,
+        advice: impl Into<String>,
+    ) -> Problem {
+        self.about(format!("{}: {}", text.as_ref(), why(wrong)), advice)
     }
 
     pub fn folder(&self) -> &Path {
@@ -132,8 +163,8 @@ impl Place<'_> {
         if there.is_file() {
             return Ok(());
         }
-        let text = format!("{}, which cannot be replaced; name a file.", sort(there));
-        Err(self.about(text))
+        let text = format!("{}, which cannot be replaced", sort(there));
+        Err(self.about(text, "name a file"))
     }
 
     fn open(&self) -> io::Result<File> {
@@ -147,17 +178,26 @@ impl Place<'_> {
     fn not_opened(&self, wrong: &io::Error) -> Problem {
         match wrong.kind() {
             ErrorKind::PermissionDenied => {
-                let text = "you may not read and write this file; ask its owner";
-                self.failed(text, wrong)
+                let text = "you may not read and write this file";
+                self.failed(text, wrong, "ask its owner")
             }
-            _ => self.failed("it cannot be opened for reading and writing", wrong),
+            _ => {
+                let text = "it cannot be opened for reading and writing";
+                self.failed(text, wrong, remedy(wrong))
+            }
         }
     }
 
     /// Opens the file, before there is anything beside it, and says what it is.
     pub fn look(&self) -> Result<Metadata, Problem> {
         let file = self.open().map_err(|wrong| self.not_opened(&wrong))?;
-        self.single(&file)
+        let there = self.single(&file)?;
+        // Root may open it all the same.
+        if there.mode() & 0o222 == 0 {
+            let text = "by its mode nobody may write this file";
+            return Err(self.about(text, "if it is to be changed, chmod u+w it first"));
+        }
+        Ok(there)
     }
 
     /// The file that is held, with its one name.
@@ -171,25 +211,26 @@ impl Place<'_> {
 
     /// A regular file with no name but this: a rename would part it from its other names.
     fn single(&self, file: &File) -> Result<Metadata, Problem> {
-        let there = file
-            .metadata()
-            .map_err(|wrong| self.failed("it cannot be read", &wrong))?;
+        let there = file.metadata().map_err(|wrong| self.unread(&wrong))?;
         self.regular(&there)?;
         let names = there.nlink();
         if names <= 1 {
             return Ok(there);
         }
-        Err(self.about(format!(
-            "this file has {names} names (hard links), and a change would reach one of them alone; \
-             copy it, and work on the copy."
-        )))
+        let text = format!(
+            "this file has {names} names (hard links), and a change would reach one of them alone"
+        );
+        Err(self.about(text, "copy it, and work on the copy"))
+    }
+
+    fn unread(&self, wrong: &io::Error) -> Problem {
+        self.failed("it cannot be read", wrong, remedy(wrong))
     }
 
     /// Programs that know nothing of the lock can replace the file, or write into it, at any time.
     pub fn overtaken(&self) -> Problem {
-        self.about(
-            "another program changed this file meanwhile, so nothing was changed; run it again.",
-        )
+        let text = "another program changed this file meanwhile, so nothing was changed";
+        self.about(text, "run it again")
     }
 
     /// The file, held.
@@ -203,9 +244,10 @@ impl Place<'_> {
     fn not_held(&self, not: NotHeld) -> Problem {
         match not {
             NotHeld::Taken => self.about(
-                "another run is at work on this file; without --no-wait this one waits for its end.",
+                "another run is at work on this file",
+                "without --no-wait this one waits for its end",
             ),
-            NotHeld::Failed(wrong) => self.failed("it cannot be locked", &wrong),
+            NotHeld::Failed(wrong) => self.failed("it cannot be locked", &wrong, remedy(&wrong)),
         }
     }
 
@@ -215,7 +257,7 @@ impl Place<'_> {
             io::Seek::rewind(&mut file).and_then(|()| file.take(MOST).read_to_end(&mut content));
         match whole {
             Ok(_) => Ok(content),
-            Err(wrong) => Err(self.failed("it cannot be read", &wrong)),
+            Err(wrong) => Err(self.unread(&wrong)),
         }
     }
 
@@ -238,14 +280,8 @@ impl Place<'_> {
 
     fn no_lock(&self, wrong: &io::Error) -> Problem {
         let lock = self.lock.display();
-        let advice = match wrong.kind() {
-            ErrorKind::PermissionDenied | ErrorKind::ReadOnlyFilesystem => {
-                "; you need a folder in which you may make files"
-            }
-            _ => "",
-        };
-        let text = format!("its lock file {lock} cannot be made, so nothing was changed{advice}");
-        self.failed(text, wrong)
+        let text = format!("its lock file {lock} cannot be made, so nothing was changed");
+        self.failed(text, wrong, remedy(wrong))
     }
 
     /// Removes the new content that a stopped run left. A run at work holds its own.
@@ -266,10 +302,8 @@ impl Place<'_> {
         };
         removed.map_err(|wrong| {
             let left = self.new.display();
-            self.failed(
-                format!("a stopped run left {left}, which cannot be removed"),
-                &wrong,
-            )
+            let text = format!("a stopped run left {left}, which cannot be removed");
+            self.failed(text, &wrong, "remove it, or ask whoever owns it")
         })
     }
 
@@ -287,10 +321,8 @@ impl Place<'_> {
             NotHeld::Taken => self.not_held(not),
             NotHeld::Failed(wrong) => {
                 let folder = self.folder().display();
-                self.failed(
-                    format!("no file can be made in {folder}, so nothing was changed"),
-                    &wrong,
-                )
+                let text = format!("no file can be made in {folder}, so nothing was changed");
+                self.failed(text, &wrong, remedy(&wrong))
             }
         })
     }

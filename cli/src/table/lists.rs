@@ -34,13 +34,15 @@ fn numbered(cursor: &mut Cursor, words: Vec<Word>) -> Result<Vec<Item>, Flaw> {
         return Ok(words.into_iter().map(plain).collect());
     }
     let (first, span) = cursor.number()?;
-    let (last, span) = if cursor.passes(&Token::Range)? {
+    let ranged = cursor.passes(&Token::Range)?;
+    let (last, span) = if ranged {
         let (last, end) = cursor.number()?;
         (last, span.to(end))
     } else {
         (first, span)
     };
-    if last < first || last - first != words.len() - 1 {
+    let as_many = last >= first && last - first == words.len() - 1;
+    if !as_many || ranged != (words.len() > 1) {
         return Err(wrong_numbers(first, words.len(), span));
     }
     let number = |(i, word)| Item {

@@ -51,7 +51,7 @@ codes! {
     TooMany = "too-many", "docs/TABLES.md tells how many of each there may be";
     Number = "number", "without a number they are counted in order of listing, from 0";
     NumberTwice = "number-twice", "without numbers they are counted in order of listing, from 0";
-    NumberNeeded = "number-needed", "nobody should have to guess how counting goes on";
+    NumberNeeded = "number-needed", "write the word, = and its number: nobody should have to guess how counting goes on";
     NumberMissing = "number-missing", "without numbers they are counted in order of listing, from 0";
     Range = "range", "words that are not numbered are listed one by one";
     RangeNumbers = "range-numbers", "a range of words takes a range of numbers: press1..press4 = 8..11";

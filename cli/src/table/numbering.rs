@@ -58,10 +58,6 @@ fn number_needed(item: &Item, earlier: &Item, kind: &Numbered) -> Flaw {
             earlier.word.span,
             format!("`{}` has one", earlier.word.text),
         )
-        .hint(format!(
-            "write {} = and its number",
-            super::word::written(text)
-        ))
 }
 
 fn within(number: usize, item: &Item, kind: &Numbered) -> Result<(), Flaw> {

@@ -2,7 +2,7 @@
 
 use super::mistake::{Code, Flaw};
 use super::source::Span;
-use super::word::{nearest, written, Word};
+use super::word::{digits, nearest, written, Word};
 use crate::count::one_of;
 use std::collections::BTreeMap;
 
@@ -50,13 +50,8 @@ impl Registry {
         let key = (sort, word.text.to_lowercase());
         if let Some(earlier) = self.small.insert(key, word.clone()) {
             let noun = sort.noun();
-            return Err(Flaw::new(Code::NearlyTwice, word.span)
-                .found(format!(
-                    "`{}` differs from `{}` in capitals alone",
-                    word.text, earlier.text
-                ))
-                .expected(format!("{noun}s that nobody takes for each other"))
-                .earlier(earlier.span, format!("the {noun} `{}`", earlier.text)));
+            return Err(nearly(word, &earlier, noun)
+                .expected(format!("{noun}s that nobody takes for each other")));
         }
         let entry = Entry {
             sort,
@@ -118,9 +113,29 @@ impl Registry {
                     .expected("a blank with a word of its own")
                     .earlier(entry.span, "it is listed there"));
             }
+            self.unlike(blank)?;
             self.blanks.push(blank.clone());
         }
         Ok(())
+    }
+
+    /// A blank that nobody takes for another blank of the rule, for a name or for a number.
+    fn unlike(&self, blank: &Word) -> Result<(), Flaw> {
+        let small = blank.text.to_lowercase();
+        let blanks = self.blanks.iter().map(|blank| ("blank", blank));
+        let named = self.small.get(&(Sort::Name, small.clone()));
+        let others = blanks.chain(named.map(|name| ("name", name)));
+        let like = |(_, other): &(&str, &Word)| other.text.to_lowercase() == small;
+        if let Some((noun, other)) = others.into_iter().find(like) {
+            return Err(nearly(blank, other, noun)
+                .expected("blanks that nobody takes for each other or for a name"));
+        }
+        match digits(&blank.text) {
+            None => Ok(()),
+            Some(_) => Err(Flaw::new(Code::DigitWord, blank.span)
+                .found(format!("\"{}\" as a blank", blank.text))
+                .expected("a word that nobody takes for a number")),
+        }
     }
 
     /// The number of a blank of the rule.
@@ -143,6 +158,16 @@ impl Registry {
             None => Err(flaw.hint("blanks are listed after the rule's word: rule lend (a, b, f)")),
         }
     }
+}
+
+/// A word that differs in capitals alone from an earlier one.
+fn nearly(word: &Word, earlier: &Word, noun: &str) -> Flaw {
+    Flaw::new(Code::NearlyTwice, word.span)
+        .found(format!(
+            "`{}` differs from `{}` in capitals alone",
+            word.text, earlier.text
+        ))
+        .earlier(earlier.span, format!("the {noun} `{}`", earlier.text))
 }
 
 /// What is expected: `a right: own or read`.

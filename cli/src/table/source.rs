@@ -161,11 +161,17 @@ fn unseen(text: &str) -> Option<Flaw> {
 
 pub fn is_unseen(character: char) -> bool {
     match character {
-        '\t' | '\n' | '\r' => false,
-        // Blanks of other widths, joiners, marks of direction, line and paragraph separators.
-        '\u{A0}' | '\u{AD}' | '\u{61C}' | '\u{180E}' | '\u{3000}' | '\u{FEFF}' => true,
-        '\u{2000}'..='\u{200F}' | '\u{2028}'..='\u{202F}' | '\u{205F}'..='\u{206F}' => true,
-        '\u{FFF9}'..='\u{FFFB}' | '\u{E0000}'..='\u{E007F}' => true,
-        _ => character.is_control(),
+        ' ' | '\t' | '\n' | '\r' => false,
+        // Joiners, fillers, marks of direction, choices of form and tags: what Unicode calls default ignorable.
+        '\u{AD}' | '\u{34F}' | '\u{61C}' | '\u{115F}'..='\u{1160}' | '\u{17B4}'..='\u{17B5}' => {
+            true
+        }
+        '\u{180B}'..='\u{180F}' | '\u{200B}'..='\u{200F}' | '\u{202A}'..='\u{202E}' => true,
+        '\u{2060}'..='\u{206F}' | '\u{3164}' | '\u{FE00}'..='\u{FE0F}' | '\u{FEFF}' => true,
+        '\u{FFA0}' | '\u{FFF0}'..='\u{FFFB}' | '\u{1BCA0}'..='\u{1BCA3}' => true,
+        '\u{1D173}'..='\u{1D17A}' | '\u{E0000}'..='\u{E0FFF}' => true,
+        // A pattern of no dots, which looks like a space.
+        '\u{2800}' => true,
+        _ => character.is_control() || character.is_whitespace(),
     }
 }

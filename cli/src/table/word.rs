@@ -38,10 +38,12 @@ pub fn loose_hyphen(text: &str) -> Option<usize> {
         .map(|at| characters[at].0)
 }
 
-/// An accent that is a character of its own: the same word could be spelled in two ways.
+/// An accent that is a character of its own, or the second or third part of a Korean letter: the same word could be
+/// spelled in two ways.
 pub fn is_accent(character: char) -> bool {
     matches!(character, '\u{300}'..='\u{36F}' | '\u{1AB0}'..='\u{1AFF}'
-        | '\u{1DC0}'..='\u{1DFF}' | '\u{20D0}'..='\u{20FF}' | '\u{FE20}'..='\u{FE2F}')
+        | '\u{1DC0}'..='\u{1DFF}' | '\u{20D0}'..='\u{20FF}' | '\u{FE20}'..='\u{FE2F}'
+        | '\u{3099}'..='\u{309A}' | '\u{1161}'..='\u{11FF}' | '\u{D7B0}'..='\u{D7FF}')
 }
 
 /// What is wrong with the text of a word, in quotes or not.

@@ -7,7 +7,7 @@ use crate::labels;
 use crate::limits::STEP_BYTES;
 
 pub fn verdict(content: &Content, verdict: &Verdict) -> Json {
-    let words = &content.words;
+    let Content { house, words } = content;
     let mut fields = vec![("right", labels::right(words, usize::from(verdict.right)))];
     match &verdict.ruling {
         Ruling::Safe(cells) => {
@@ -17,7 +17,10 @@ pub fn verdict(content: &Content, verdict: &Verdict) -> Json {
             fields.push(("judge_steps", (verdict.trace.len() / STEP_BYTES).into()));
         }
         Ruling::Unsafe(leak) => {
-            let steps = leak.steps.iter().map(|done| labels::done(words, done));
+            let steps = leak
+                .steps
+                .iter()
+                .map(|done| labels::done(words, &house.rules, done));
             fields.push(("verdict", "unsafe".into()));
             fields.push(("steps", steps.collect()));
             fields.push(("leak", labels::held(words, leak.held)));

@@ -4,7 +4,7 @@ use super::{obstacle, Leak, Ruling, Verdict};
 use crate::count::count;
 use crate::input::Content;
 use crate::refusals;
-use crate::story::{self, Done};
+use crate::story::{self, Done, Jobs};
 use crate::terminal::{padded, width, Style};
 use crate::words::Words;
 
@@ -29,7 +29,7 @@ pub fn lines(content: &Content, verdicts: &[Verdict], style: Style) -> String {
             summary(content, verdict)
         );
         if let Ruling::Unsafe(leak) = &verdict.ruling {
-            for line in steps(&content.words, &leak.steps) {
+            for line in steps(content, &leak.steps, Jobs::LeftOut) {
                 text += &format!("  {line}\n");
             }
             text += &format!("  {}\n", outcome(&content.words, leak));
@@ -67,10 +67,11 @@ fn holders(cells: usize) -> String {
 }
 
 /// Steps, numbered from 1, each with what it did.
-pub fn steps(words: &Words, steps: &[Done]) -> Vec<String> {
+pub fn steps(content: &Content, steps: &[Done], jobs: Jobs) -> Vec<String> {
+    let Content { house, words } = content;
     let calls: Vec<String> = steps
         .iter()
-        .map(|done| story::call(words, done.step))
+        .map(|done| story::call(words, &house.rules, done.step, jobs))
         .collect();
     let margin = calls.iter().map(|call| width(call)).max().unwrap_or(0);
     let digits = steps.len().to_string().len();

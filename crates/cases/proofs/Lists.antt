@@ -8,8 +8,10 @@ use native.Mathlib.Numerals.{add-one}
 use native.Mathlib.Omega.{arith}
 use borrow.Author.Tests.{not-true, not-false}
 use mathlib.Core.Option.{Option, none, some}
+use lib.Dec.{T}
 use lib.ListN.{length, getD, getElem?, take}
 use Rattle.cases.specs.Cases.{tabulate}
+use Rattle.cases.proofs.Bools.{or-left, or-right}
 
 pub length-tabulate : {A : Type 0} (f : ℕ → A) (n j : ℕ) → length (tabulate f n j) ≡ n
 length-tabulate f zero j = refl
@@ -37,6 +39,16 @@ module _ {A : Type 0} (P : List A → Bool) (p : A → Bool) (split : (x : A) (x
 
   pub any-next : (r : Bool) → r ≡ p (f j) → r ≡ false → j < n → P (tabulate f (n - j) j) ≡ whole → P (tabulate f (n - (j + 1)) (j + 1)) ≡ whole
   any-next r d t h e = let z : p (f j) ≡ false = sym d ∙ t in sym (unrolled h ∙ rw z) ∙ e
+
+-- such a test holds of the values of f where p holds of one of them
+pub any-tabulate : {A : Type 0} (P : List A → Bool) (p : A → Bool) → ((x : A) (xs : List A) → P (x ∷ xs) ≡ p x || P xs) → (f : ℕ → A) (n j i : ℕ) → i < n → T (p (f (j + i))) → T (P (tabulate f n j))
+any-tabulate P p split f zero j i l t = absurd (not-suc-le-zero l)
+any-tabulate P p split f (suc n) j zero l t =
+    let z : j + 0 ≡ j = omega arith in
+    rw (split (f j) (tabulate f n (suc j))) (or-left (p (f j)) (P (tabulate f n (suc j))) (rw z at t))
+any-tabulate P p split f (suc n) j (suc i) l t =
+    let z : j + suc i ≡ suc j + i = omega arith in
+    rw (split (f j) (tabulate f n (suc j))) (or-right (p (f j)) (P (tabulate f n (suc j))) (any-tabulate P p split f n (suc j) i (le-of-suc-le-suc l) (rw z at t)))
 
 -- a test that holds of a list if p holds of each of its elements
 module _ {A : Type 0} (P : List A → Bool) (p : A → Bool) (split : (x : A) (xs : List A) → P (x ∷ xs) ≡ p x && P xs) (f : ℕ → A) (n j : ℕ) (whole : Bool) where

@@ -1,15 +1,17 @@
--- The loops that look for a parameter in a command's conditions and operations. Assumes nothing.
+-- The parameters that a command names: the loops that look for one, and what is named. Assumes nothing.
 use Prim.Native.Nat.{ℕ, _+_, _*_, _-_, _≤_, _<_}
 use mathlib.Core.Path.{_≡_, refl, ap, _∙_}
 use mathlib.Core.Bool.{Bool, true, false, _||_}
 use mathlib.Core.List.{List}
+use native.Mathlib.Nat.{zero-add}
 use native.Mathlib.Omega.{arith}
-use lib.Dec.{eqb}
+use lib.Dec.{T, eqb}
 use lib.ListN.{getD}
 use Rattle.cases.specs.Cases.{tabulate}
-use Rattle.cases.proofs.Lists.{any-found, any-next}
-use Rattle.protection.specs.Command.{Condition, Operation, inConditions, inOperation, inOperations}
-use Rattle.commands.specs.Contents.{conditionOf, operationAt, operationOf, modelOf}
+use Rattle.cases.proofs.Lists.{any-found, any-next, any-tabulate}
+use Rattle.cases.proofs.Bools.{or-left, or-right}
+use Rattle.protection.specs.Command.{Condition, Operation, inConditions, inOperation, inOperations, named}
+use Rattle.commands.specs.Contents.{conditionOf, operationAt, operationOf, modelOf, meaning}
 use Rattle.commands.specs.declared.Command.{Command}
 use Rattle.commands.specs.declared.Operation.{Operation as CodeOperation}
 
@@ -42,3 +44,15 @@ operations-end c b n j whole h e = let z : n - j ≡ 0 = omega arith in rw z at 
 -- one of two answers
 pub either-is : (x y a b : Bool) → x ≡ a → y ≡ b → x || y ≡ a || b
 either-is x y a b e f = rw (e, f)
+
+-- ---- what a condition or an operation names is named by the command
+module _ (c : Command) (b : ℕ) where
+  pub condition-names : (j : ℕ) → j < c .conditions → T (eqb b (conditionOf c j .subject) || eqb b (conditionOf c j .object)) → T (named (meaning c) b)
+  condition-names j l t =
+      or-left (inConditions b (meaning c .conditions)) (inOperations b (meaning c .operations))
+      (any-tabulate (inConditions b) (λ x. eqb b (x .subject) || eqb b (x .object)) (λ x xs. refl) (conditionOf c) (c .conditions) 0 j l (rw zero-add t))
+
+  pub operation-names : (j : ℕ) → j < c .operations → T (inOperation b (operationOf c j)) → T (named (meaning c) b)
+  operation-names j l t =
+      or-right (inConditions b (meaning c .conditions)) (inOperations b (meaning c .operations))
+      (any-tabulate (inOperations b) (inOperation b) (λ x xs. refl) (operationOf c) (c .operations) 0 j l (rw zero-add t))

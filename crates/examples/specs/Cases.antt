@@ -50,9 +50,9 @@ pub record Row : Type 0 where
 abbrev pub row : String → Case → Row
 row name case = record { name = name; case = case }
 
-abbrev pub namesOf : List Row → List String
-namesOf [] = []
-namesOf (w ∷ ws) = w .name ∷ namesOf ws
+abbrev pub rowNames : List Row → List String
+rowNames [] = []
+rowNames (w ∷ ws) = w .name ∷ rowNames ws
 
 abbrev pub AllHold : List Row → Type 0
 AllHold [] = Unit {0}

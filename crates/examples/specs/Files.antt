@@ -58,7 +58,7 @@ matrixCases =
     row "7: an absent name's column" (checks (oneCell (cellWith 0 2 1)) 7) ∷
     row "5: an object's column" (checks (oneCell (cellWith 0 1 1)) 5) ∷
     row "7: the last cell" (checks (oneCell (cellWith 31 31 1)) 7) ∷
-    row "accepted: g 8, whole rights in a cell" (checks (fileOf 8 (aSubject 0 ∷ []) (cellWith 0 0 255 ∷ []) []) 0) ∷
+    row "accepted: g 8, all rights in a cell" (checks (fileOf 8 (aSubject 0 ∷ []) (cellWith 0 0 255 ∷ []) []) 0) ∷
     []
 
 -- g 2, no names, and these rules

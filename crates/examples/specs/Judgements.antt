@@ -68,6 +68,8 @@ roundCases =
     row "judge: the first blank slowest" (judgeAnswers twoSubjects 0 80 (Unsafe 1) (call 0 (0 ∷ 1 ∷ []) ∷ [])) ∷
     row "judge: name 31" (judgeAnswers lastName 0 50 (Unsafe 1) (call 0 (31 ∷ []) ∷ [])) ∷
     row "desk: name 31" (prints (0 ∷ lastName) (text "UNSAFE 1\n0 31\n")) ∷
+    -- document 02, C-11: "The judge always writes 0 there", whether a name 0 exists or not
+    row "judge: spare blanks get 0" (judgeAnswers (fileOf 1 (aSubject 1 ∷ []) [] (ruleBytes 4 [] (enter 0 1 1 ∷ []) ∷ [])) 0 50 (Unsafe 1) (call 0 (0 ∷ 1 ∷ 0 ∷ 0 ∷ []) ∷ [])) ∷
     -- "It goes through the rules in order"; "After the last rule it starts again"
     row "judge: rule 0 before rule 1" (judgeAnswers (loneSubject (entering 1 ∷ entering 0 ∷ [])) 0 80 (Unsafe 2) (call 0 (0 ∷ []) ∷ call 1 (0 ∷ []) ∷ [])) ∷
     row "judge: rule 0 once more" (judgeAnswers (loneSubject (enteringIf 0 ∷ entering 1 ∷ [])) 0 80 (Unsafe 2) (call 1 (0 ∷ []) ∷ call 0 (0 ∷ []) ∷ [])) ∷
@@ -90,7 +92,7 @@ createCases =
     -- "A created blank gets only the name that is lowest absent when the judge reaches the rule in that round"
     row "judge: create object, the lowest absent name" (judgeAnswers (gap (onName (createObject 0) ∷ [])) 0 100 (Safe 1) (call 0 (1 ∷ []) ∷ [])) ∷
     -- "a create object if the judge has done no create object yet; a create subject likewise, each counted by itself"
-    row "judge: one create of all kind, in one round"
+    row "judge: one create of each kind, in one round"
     (judgeAnswers
     (gap (onName (createSubject 0) ∷ onName (createSubject 0) ∷ onName (createObject 0) ∷ onName (createObject 0) ∷ entering 1 ∷ []))
     0
@@ -127,13 +129,22 @@ elsewhere =
     (cellWith 0 0 1 ∷ cellWith 0 1 1 ∷ [])
     (ruleBytes 2 (ifIn 0 0 0 ∷ []) (enter 0 0 1 ∷ []) ∷ onCell (delete 0 0 1) ∷ [])
 
--- g 2, object 0, subject 1, both rights in (1,1). Rules (a,b), a unnamed: 0 deletes 0 from (b,b); 1 enters 0 into it if 1 is there.
-abbrev pub unnamed : List ℕ
-unnamed =
+-- g 2, subject 1, both rights in (1,1). Rules (a,b), a spare: 0 deletes 0 from (b,b); 1 enters 0 into it if 1 is there.
+abbrev pub closingSpare : List ℕ
+closingSpare =
     fileOf 2
-    (anObject 0 ∷ aSubject 1 ∷ [])
+    (aSubject 1 ∷ [])
     (cellWith 1 1 3 ∷ [])
     (onCell (delete 0 1 1) ∷ ruleBytes 2 (ifIn 1 1 1 ∷ []) (enter 0 1 1 ∷ []) ∷ [])
+
+-- g 2, subjects 0 and 1, right 0 in (0,0), both in (1,1). Rules (a,b): 0 deletes 0 from (b,b) if 0 in (a,a); 1 enters
+-- 0 into it if also 1 is there.
+abbrev pub firstAllowed : List ℕ
+firstAllowed =
+    fileOf 2
+    (aSubject 0 ∷ aSubject 1 ∷ [])
+    (cellWith 0 0 1 ∷ cellWith 1 1 3 ∷ [])
+    (ruleBytes 2 (ifIn 0 0 0 ∷ []) (delete 0 1 1 ∷ []) ∷ ruleBytes 2 (ifIn 0 0 0 ∷ ifIn 1 1 1 ∷ []) (enter 0 1 1 ∷ []) ∷ [])
 
 -- g 2, subject 0, right 0 in (0,0). Rules (a): 0 enters 1 into (a,a); 1 and 2 delete 0 from it; 3 and 4 enter 0 if 1 is there.
 abbrev pub behindRounds : List ℕ
@@ -149,8 +160,10 @@ closingCases =
     row "judge: start cells row by row, the first with both" (judgeAnswers startCells 0 140 (Unsafe 2) (call 0 (0 ∷ 1 ∷ []) ∷ call 1 (0 ∷ 1 ∷ []) ∷ [])) ∷
     -- "the first enter of r into it allowed once r is gone": from that cell alone
     row "judge: the right is gone from one cell alone" (judgeAnswers elsewhere 0 60 (Unsafe 2) (call 1 (0 ∷ 1 ∷ []) ∷ call 0 (0 ∷ 1 ∷ []) ∷ [])) ∷
+    -- "The judge always writes 0 there" (C-11), though no name 0 exists
+    row "judge: the closing search with a spare blank" (judgeAnswers closingSpare 0 80 (Unsafe 2) (call 0 (0 ∷ 1 ∷ []) ∷ call 1 (0 ∷ 1 ∷ []) ∷ [])) ∷
     -- "the first allowed delete of r from it, and the first enter"
-    row "judge: the first of the allowed actuals" (judgeAnswers unnamed 0 100 (Unsafe 2) (call 0 (0 ∷ 1 ∷ []) ∷ call 1 (0 ∷ 1 ∷ []) ∷ [])) ∷
+    row "judge: the first of the allowed actuals" (judgeAnswers firstAllowed 0 140 (Unsafe 2) (call 0 (0 ∷ 1 ∷ []) ∷ call 1 (0 ∷ 1 ∷ []) ∷ [])) ∷
     -- behind the rounds' steps, on what they left: "the first allowed delete of r from it", and the first enter
     row "judge: the closing search behind the rounds" (judgeAnswers behindRounds 0 80 (Unsafe 3) (call 0 (0 ∷ []) ∷ call 1 (0 ∷ []) ∷ call 3 (0 ∷ []) ∷ [])) ∷
     []

@@ -58,6 +58,9 @@ replayCases =
     row "replay: 12 at step 1" (replayAnswers (call 0 (0 ∷ 2 ∷ []) ∷ call 1 (0 ∷ 2 ∷ 0 ∷ []) ∷ []) 1 (Refused 12 1)) ∷
     row "replay: 14 at step 1" (replayAnswers (call 0 (0 ∷ 2 ∷ []) ∷ call 5 (1 ∷ 2 ∷ []) ∷ []) 1 (Refused 14 1)) ∷
     row "replay: 15 at step 1" (replayAnswers (call 0 (0 ∷ 2 ∷ []) ∷ call 1 (3 ∷ 2 ∷ []) ∷ []) 1 (Refused 15 1)) ∷
+    -- document 02, C-11: job numbers in spare blanks
+    row "replay: job numbers in a spare blank" (replays (fileWithRules (ruleBytes 3 [] (enter 1 0 2 ∷ []) ∷ [])) (trace (call 0 (0 ∷ 117 ∷ 0 ∷ []) ∷ call 0 (0 ∷ 255 ∷ 2 ∷ []) ∷ call 0 (0 ∷ 32 ∷ 32 ∷ []) ∷ [])) 0 (Refused 12 2)) ∷
+    row "leak at step 1, job numbers in a spare blank" (replays (fileWithRules (ruleBytes 3 [] (enter 0 0 2 ∷ []) ∷ [])) (trace (call 0 (0 ∷ 254 ∷ 2 ∷ []) ∷ call 0 (0 ∷ 33 ∷ 0 ∷ []) ∷ [])) 0 (Leak 1)) ∷
     -- each step meets what the one before left
     row "leak at step 2, by what the steps before left" (replayAnswers (call 6 (3 ∷ []) ∷ call 0 (3 ∷ 2 ∷ []) ∷ call 5 (3 ∷ 2 ∷ []) ∷ []) 1 (Leak 2)) ∷
     []

@@ -1,4 +1,4 @@
--- Rule runs on a lent file (document 01, "Running a rule"): 11 to 15, each with a later refusal behind it where one can follow, and what a done run leaves.
+-- Rule runs on a lent file (document 01, "Running a rule"): 11, 12, 14 and 15, each with a later refusal behind it where one can follow, and what a done run leaves.
 use Prim.Native.Nat.{ℕ}
 use mathlib.Core.List.{List, [], _∷_}
 use Rattle.protection.specs.Command.{Call}
@@ -22,7 +22,7 @@ runRefused rule xs n = runs (fileWithRule rule) (call 0 xs) n (fileWithRule rule
 abbrev pub runDone : List ℕ → List ℕ → List KindAt → List CellAt → Case
 runDone rule xs ks cs = runs (fileWithRule rule) (call 0 xs) 0 (fileOf 2 ks cs (rule ∷ []))
 
--- (a,b): if 0 in (a,a) enter 1 into (a,a), b unnamed
+-- (a,b): if 0 in (a,a) enter 1 into (a,a), b spare
 abbrev pub spare : List ℕ
 spare = ruleBytes 2 (ifIn 0 0 0 ∷ []) (enter 1 0 0 ∷ [])
 
@@ -36,19 +36,15 @@ refusedCases =
     row "5 before 11" (runs (fileWithRule []) (call 1 []) 5 (fileWithRule [])) ∷
     -- "11 no such rule"
     row "11: rule 1 of one, before 12" (runs (fileWithRule spare) (call 1 (32 ∷ [])) 11 (fileWithRule spare)) ∷
-    -- "12 an actual above 31 in a used position or not 255 in an unused one"
-    row "12: 32 for an unnamed blank, before 14" (runRefused spare (0 ∷ 32 ∷ []) 12) ∷
-    row "12: 32 for a named blank, before 13" (runRefused spare (32 ∷ 3 ∷ []) 12) ∷
-    row "12: 255 in a used position, before 14" (runRefused spare (0 ∷ []) 12) ∷
-    row "12: 254 in an unused position, before 13" (runRefused spare (0 ∷ 3 ∷ 254 ∷ []) 12) ∷
-    row "12: a name in the last position, before 13" (runRefused spare (0 ∷ 3 ∷ 255 ∷ 0 ∷ []) 12) ∷
-    -- "13 an unnamed blank with an absent name"
-    row "13: 31 for an unnamed blank, before 14" (runRefused spare (0 ∷ 31 ∷ []) 13) ∷
-    row "13: the name that the run creates" (runRefused (onCell (createSubject 0)) (3 ∷ 3 ∷ []) 13) ∷
-    -- "Kinds 3 to 6 have right 0 and second blank 0; that 0 names no blank."
-    row "13: the 0 behind a created blank" (runRefused (onCell (createSubject 1)) (4 ∷ 3 ∷ []) 13) ∷
+    -- document 02, C-11: "12 looks at named blanks and at positions from k on"
+    row "12: 32 for a named blank, before 14" (runRefused spare (32 ∷ 3 ∷ []) 12) ∷
+    row "12: 255 for a named blank, before 14" (runRefused spare (255 ∷ 3 ∷ []) 12) ∷
+    row "12: 254 in an unused position, before 14" (runRefused spare (0 ∷ 3 ∷ 254 ∷ []) 12) ∷
+    row "12: a name in the last position, before 14" (runRefused spare (0 ∷ 3 ∷ 255 ∷ 0 ∷ []) 12) ∷
     -- "14 a condition not held": "the subject blank's name is a subject, the object blank's exists, the right is in the cell"
-    row "14: an unnamed blank with an existing name" (runRefused spare (0 ∷ 2 ∷ []) 14) ∷
+    row "14: 31 for a named blank" (runRefused spare (31 ∷ 0 ∷ []) 14) ∷
+    row "14: 32 for a spare blank" (runRefused spare (0 ∷ 32 ∷ []) 14) ∷
+    row "14: 255 for a spare blank" (runRefused spare (0 ∷ []) 14) ∷
     row "14: the cell lacks the right, before 15" (runRefused impossible (0 ∷ 1 ∷ []) 14) ∷
     row "14: the subject is an object, before 15" (runRefused impossible (2 ∷ 2 ∷ []) 14) ∷
     row "14: the object is absent, before 15" (runRefused impossible (0 ∷ 3 ∷ []) 14) ∷
@@ -95,10 +91,17 @@ doneCases =
     (0 ∷ 1 ∷ [])
     (anObject 0 ∷ aSubject 1 ∷ anObject 2 ∷ [])
     (cellWith 1 0 1 ∷ cellWith 1 2 3 ∷ [])) ∷
-    row "done: the conditions held, four blanks, one unnamed"
+    row "done: the conditions held, four blanks, one spare"
     (runDone
     (ruleBytes 4 (ifIn 0 0 1 ∷ ifIn 1 2 0 ∷ []) (enter 1 0 1 ∷ delete 1 2 1 ∷ []))
     (0 ∷ 2 ∷ 1 ∷ 2 ∷ [])
     kinds
     (cellWith 0 2 3 ∷ cellWith 1 0 2 ∷ cellWith 1 2 1 ∷ [])) ∷
+    -- document 02, C-11: a blank that no condition and no step names "takes any byte"
+    row "done: an absent name for a spare blank" (runDone (onCell (createSubject 0)) (3 ∷ 4 ∷ []) (aSubject 3 ∷ kinds) cells) ∷
+    row "done: 117 for a spare blank" (runDone (onCell (createSubject 0)) (3 ∷ 117 ∷ []) (aSubject 3 ∷ kinds) cells) ∷
+    row "done: 255 for a spare blank" (runDone (onCell (createSubject 0)) (3 ∷ []) (aSubject 3 ∷ kinds) cells) ∷
+    row "done: three spare blanks" (runDone (ruleBytes 4 [] (enter 1 2 2 ∷ [])) (32 ∷ 254 ∷ 0 ∷ 31 ∷ []) kinds (cellWith 0 0 2 ∷ cells)) ∷
+    -- "Kinds 3 to 6 have right 0 and second blank 0; that 0 names no blank."
+    row "done: the 0 behind a created blank names none" (runDone (onCell (createSubject 1)) (117 ∷ 3 ∷ []) (aSubject 3 ∷ kinds) cells) ∷
     []

@@ -1,4 +1,4 @@
--- Document 01's own cases ("Proof slipCases": P1 to P10).
+-- Document 01's own cases ("Proof slips", P1 to P10).
 use Prim.Native.Nat.{ℕ}
 use mathlib.Core.List.{List, [], _∷_}
 use Rattle.safety.specs.declared.Judgement.the-variants.{Refused, Safe, Unsafe}
@@ -71,9 +71,9 @@ slipCases =
     -- "Right 0: UNSAFE 2, `0 0`, `1 0 0`."
     row "P4" (judges file4 0 (buffer 0 30) (Unsafe 2) (holding (call 0 (0 ∷ []) ∷ call 1 (0 ∷ 0 ∷ []) ∷ []) 30)) ∷
     row "P4 listing" (prints (0 ∷ file4) (text "UNSAFE 2\n0 0\n1 0 0\n")) ∷
-    -- "SAFE 0."
-    row "P5" (judges file5 0 (buffer 0 30) (Safe 0) (buffer 0 30)) ∷
-    row "P5 listing" (prints (0 ∷ file5) (text "SAFE 0\n")) ∷
+    -- document 02, C-11: "P5 turns into UNSAFE 2 with `0 0 0` and `1 0 0`."
+    row "P5" (judges file5 0 (buffer 0 30) (Unsafe 2) (holding (call 0 (0 ∷ 0 ∷ []) ∷ call 1 (0 ∷ 0 ∷ []) ∷ []) 30)) ∷
+    row "P5 listing" (prints (0 ∷ file5) (text "UNSAFE 2\n0 0 0\n1 0 0\n")) ∷
     -- "right 0: SAFE 0."
     row "P6" (judges file6 0 (buffer 0 30) (Safe 0) (buffer 0 30)) ∷
     row "P6 listing" (prints (0 ∷ file6) (text "SAFE 0\n")) ∷

@@ -12,7 +12,7 @@ use Rattle.trace.specs.declared.Replay.the-variants.{NoLeak, Leak, Refused as R
 use Rattle.safety.specs.declared.Judgement.{Judgement}
 use Rattle.safety.specs.declared.Judgement.the-variants.{Refused, Safe, Unsafe}
 use Rattle.examples.specs.Build.{joined}
-use Rattle.examples.specs.Cases.{Case, checks, runs, replays, judges, prints, Row, namesOf, AllHold}
+use Rattle.examples.specs.Cases.{Case, checks, runs, replays, judges, prints, Row, rowNames, AllHold}
 use Rattle.examples.specs.Slips.{slipCases}
 use Rattle.examples.specs.Files.{headerCases, matrixCases, ruleCases}
 use Rattle.examples.specs.Runs.{refusedCases, doneCases}
@@ -78,7 +78,7 @@ required =
     "7: an absent name's column" ∷
     "5: an object's column" ∷
     "7: the last cell" ∷
-    "accepted: g 8, whole rights in a cell" ∷
+    "accepted: g 8, all rights in a cell" ∷
     "5: a rule of 2 bytes, before 8" ∷
     "8: no blanks, before 5" ∷
     "8: 5 blanks, before 5" ∷
@@ -110,15 +110,13 @@ required =
     "accepted: 34 pairs" ∷
     "5 before 11" ∷
     "11: rule 1 of one, before 12" ∷
-    "12: 32 for an unnamed blank, before 14" ∷
-    "12: 32 for a named blank, before 13" ∷
-    "12: 255 in a used position, before 14" ∷
-    "12: 254 in an unused position, before 13" ∷
-    "12: a name in the last position, before 13" ∷
-    "13: 31 for an unnamed blank, before 14" ∷
-    "13: the name that the run creates" ∷
-    "13: the 0 behind a created blank" ∷
-    "14: an unnamed blank with an existing name" ∷
+    "12: 32 for a named blank, before 14" ∷
+    "12: 255 for a named blank, before 14" ∷
+    "12: 254 in an unused position, before 14" ∷
+    "12: a name in the last position, before 14" ∷
+    "14: 31 for a named blank" ∷
+    "14: 32 for a spare blank" ∷
+    "14: 255 for a spare blank" ∷
     "14: the cell lacks the right, before 15" ∷
     "14: the subject is an object, before 15" ∷
     "14: the object is absent, before 15" ∷
@@ -146,7 +144,12 @@ required =
     "done: destroy subject" ∷
     "done: destroy object" ∷
     "done: destroyed, created again, entered" ∷
-    "done: the conditions held, four blanks, one unnamed" ∷
+    "done: the conditions held, four blanks, one spare" ∷
+    "done: an absent name for a spare blank" ∷
+    "done: 117 for a spare blank" ∷
+    "done: 255 for a spare blank" ∷
+    "done: three spare blanks" ∷
+    "done: the 0 behind a created blank names none" ∷
     "replay: 5 before 21" ∷
     "replay: 21, right g, before 31" ∷
     "replay: 31, 6 bytes, before a leak" ∷
@@ -165,6 +168,8 @@ required =
     "replay: 12 at step 1" ∷
     "replay: 14 at step 1" ∷
     "replay: 15 at step 1" ∷
+    "replay: job numbers in a spare blank" ∷
+    "leak at step 1, job numbers in a spare blank" ∷
     "leak at step 2, by what the steps before left" ∷
     "judge: 5 before 21" ∷
     "judge: 21, right g, before 22" ∷
@@ -177,6 +182,7 @@ required =
     "judge: the first blank slowest" ∷
     "judge: name 31" ∷
     "desk: name 31" ∷
+    "judge: spare blanks get 0" ∷
     "judge: rule 0 before rule 1" ∷
     "judge: rule 0 once more" ∷
     "judge: nothing behind the leak" ∷
@@ -184,19 +190,20 @@ required =
     "judge: safe, one step" ∷
     "desk: safe, one step" ∷
     "judge: create object, the lowest absent name" ∷
-    "judge: one create of all kind, in one round" ∷
+    "judge: one create of each kind, in one round" ∷
     "judge: a created object's column" ∷
     "judge: a created blank in a condition" ∷
     "judge: deletes and destroys are passed by" ∷
     "judge: start cells row by row, the first with both" ∷
     "judge: the right is gone from one cell alone" ∷
+    "judge: the closing search with a spare blank" ∷
     "judge: the first of the allowed actuals" ∷
     "judge: the closing search behind the rounds" ∷
     []
 
--- every refusal of document 01 is the answer of some row
+-- every refusal of document 01 is the answer of some row; 13 is given by nobody since document 02, C-11
 abbrev pub refusals : List ℕ
-refusals = 1 ∷ 2 ∷ 3 ∷ 4 ∷ 5 ∷ 6 ∷ 7 ∷ 8 ∷ 9 ∷ 11 ∷ 12 ∷ 13 ∷ 14 ∷ 15 ∷ 21 ∷ 22 ∷ 23 ∷ 24 ∷ 31 ∷ []
+refusals = 1 ∷ 2 ∷ 3 ∷ 4 ∷ 5 ∷ 6 ∷ 7 ∷ 8 ∷ 9 ∷ 11 ∷ 12 ∷ 14 ∷ 15 ∷ 21 ∷ 22 ∷ 23 ∷ 24 ∷ 31 ∷ []
 
 abbrev pub replayRefused : Replay → ℕ
 replayRefused NoLeak = 0
@@ -227,6 +234,6 @@ unanswered (n ∷ ns) ws = pick (answered n ws) [] (n ∷ []) ++ unanswered ns w
 
 -- ---- the claim
 pub record AllCases (rows : List Row) : Type 0 where
-  pub named : namesOf rows ≡ required
+  pub named : rowNames rows ≡ required
   pub every-refusal : unanswered refusals rows ≡ []
   pub hold : AllHold rows

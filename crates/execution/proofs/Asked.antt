@@ -1,27 +1,36 @@
 -- The tests before the first operation, in the words of the model. Assumes nothing.
 use Prim.Native.Nat.{ℕ, _+_, _*_, _-_, _≤_, _<_}
 use mathlib.Core.Path.{_≡_, refl, sym, ap, ap₂, _∙_}
-use mathlib.Core.Bool.{Bool, true, false, not, _&&_, _||_}
-use mathlib.Core.List.{List, []}
+use mathlib.Core.Bool.{Bool, true, false, not, _&&_, _||_, or-false}
+use mathlib.Core.List.{List}
 use native.Mathlib.Omega.{arith}
+use borrow.Author.Tests.{lt-ltb, le-ltb}
+use lib.Dec.{eqb}
 use lib.ListN.{getD}
 use Rattle.cases.specs.Cases.{tabulate}
 use Rattle.cases.proofs.Lists.{every-stop, every-next}
 use Rattle.rights.specs.Rights.{has}
-use Rattle.protection.specs.State.{isObject}
-use Rattle.protection.specs.Command.{Command as ModelCommand, named, valuesOf}
-use Rattle.protection.specs.Execution.{holds, holdAll, spareExists}
-use Rattle.matrix.specs.Bytes.{kindOf, inside, rightsIn, view}
+use Rattle.protection.specs.Limits.{names, unused}
+use Rattle.protection.specs.Command.{named, valuesOf}
+use Rattle.protection.specs.Execution.{bounded, holds, holdAll, actualFits}
+use Rattle.matrix.specs.Bytes.{inside, rightsIn, view}
 use Rattle.commands.specs.Contents.{conditionOf, meaning}
 use Rattle.commands.specs.declared.Command.{Command}
 
--- ---- spare parameters
-pub spare-named : (ks a : List ℕ) (c : Command) (b : ℕ) (r : Bool) → r ≡ named (meaning c) b → r ≡ true → true ≡ spareExists (meaning c) (view ks []) (valuesOf a) b
-spare-named ks a c b r d t = let z : named (meaning c) b ≡ true = sym d ∙ t in rw z
+-- ---- actuals
+module _ (c : Command) (a : List ℕ) (b : ℕ) where
+  pub fits-unused : (r : Bool) → r ≡ eqb (getD a b 0) unused → c .parameters ≤ b → r ≡ actualFits bounded (meaning c) (valuesOf a) b
+  fits-unused r d l = d ∙ rw (le-ltb b (c .parameters) l)
 
-pub spare-asked : (ks a : List ℕ) (c : Command) (b x : ℕ) (r s : Bool) → r ≡ named (meaning c) b → r ≡ false → x ≡ getD a b 0 → s ≡ isObject (kindOf (getD ks x 0))
-    → s ≡ spareExists (meaning c) (view ks []) (valuesOf a) b
-spare-asked ks a c b x r s d t ex e = let z : named (meaning c) b ≡ false = sym d ∙ t in e ∙ rw (ex, z)
+  pub fits-name : getD a b 0 < names → b < c .parameters → true ≡ actualFits bounded (meaning c) (valuesOf a) b
+  fits-name h l = rw (lt-ltb b (c .parameters) l, lt-ltb (getD a b 0) names h) (go (named (meaning c) b))
+    where
+      go : (n : Bool) → true ≡ not n || true
+      go true = refl
+      go false = refl
+
+  pub fits-spare : (r : Bool) → r ≡ named (meaning c) b → names ≤ getD a b 0 → b < c .parameters → not r ≡ actualFits bounded (meaning c) (valuesOf a) b
+  fits-spare r d h l = rw (lt-ltb b (c .parameters) l, le-ltb (getD a b 0) names h, or-false (not (named (meaning c) b))) (ap not d)
 
 -- ---- conditions: a right is only in a cell that has a row and a column
 gated : (ks cs : List ℕ) (s o q : ℕ) → inside ks s o && rightsIn ks cs s o q ≡ rightsIn ks cs s o q

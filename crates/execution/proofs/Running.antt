@@ -7,16 +7,15 @@ use mathlib.Core.Option.{Option, none, some}
 use native.Mathlib.Nat.{sub-zero}
 use native.Mathlib.Numerals.{add-one}
 use native.Mathlib.Omega.{arith}
-use borrow.Author.Tests.{not-true, not-false, ltb-true, lt-ltb}
-use lib.Dec.{T, eqb, ltb}
+use borrow.Author.Tests.{not-true, not-false}
+use lib.Dec.{T, eqb, eqb-refl, ltb→lt}
 use lib.ListN.{length, getD, getElem?}
 use Rattle.cases.specs.Cases.{pick, all, tabulate}
-use Rattle.cases.proofs.Bools.{holds as test-holds}
-use Rattle.cases.proofs.Loops.{all-at}
+use Rattle.cases.proofs.Bools.{holds as test-holds, or-left, or-right}
 use Rattle.protection.specs.Limits.{names, rights, parameters}
 use Rattle.protection.specs.State.{State}
-use Rattle.protection.specs.Command.{Operation as ModelOperation, Command as ModelCommand, valuesOf}
-use Rattle.protection.specs.Execution.{bounded, holdAll, spareExists, actualFits, canDo, effect, entersNew, canDoAll, effectAll, entersAnyNew, Outcome, refused, done, gate, executeCommand}
+use Rattle.protection.specs.Command.{Operation as ModelOperation, valuesOf, inOperation, named}
+use Rattle.protection.specs.Execution.{bounded, holdAll, actualFits, canDo, effect, entersNew, canDoAll, effectAll, entersAnyNew, Outcome, refused, done, gate, executeCommand}
 use Rattle.protection.specs.Leak.{after}
 use Rattle.matrix.specs.Bytes.{view}
 use Rattle.matrix.specs.Canonical.{Canonical}
@@ -28,39 +27,42 @@ use Rattle.commands.specs.declared.Command.{Command}
 use Rattle.commands.specs.declared.Operation.{Operation}
 use Rattle.commands.specs.declared.Operation.the-variants.{Enter, Delete, CreateSubject, CreateObject, DestroySubject, DestroyObject}
 use Rattle.operations.specs.Operations.{HasName, Applies, performed}
-use Rattle.execution.specs.Conditions.{ConditionApplies, ConditionsApply, SparesApply}
+use Rattle.execution.specs.Conditions.{ConditionApplies, ConditionsApply}
 use Rattle.execution.specs.Runs.{OperationsApply, RanAs, answerOf, refusedExecuted, ExecutedAs}
 use Rattle.execution.specs.declared.Answer.the-variants.{Refused, Done, Leaked}
 use Rattle.execution.specs.declared.Executed.{Executed}
 use Rattle.execution.specs.declared.Ran.{Ran}
+use Rattle.protection.proofs.Spare.{named-used, fits-name}
+use Rattle.commands.proofs.Names.{condition-names, operation-names}
 use Rattle.operations.proofs.Applied.{Grants, can-by-kinds, performed-state, performed-canonical}
 
--- ---- the operation that four bytes say
-applies-by : (a : List ℕ) (k q s o : ℕ) → q < rights → HasName a s → HasName a o → Applies a (operationBy k q s o)
-applies-by a k q s o lq hs ho = go (eqb k 1) (eqb k 2) (eqb k 3) (eqb k 4) (eqb k 5)
+-- ---- operations that apply
+-- the operation that four bytes say
+applies-by : (a : List ℕ) (k q s o : ℕ) → q < rights → (T (inOperation s (modelOf (operationBy k q s o))) → HasName a s) → (T (inOperation o (modelOf (operationBy k q s o))) → HasName a o)
+    → Applies a (operationBy k q s o)
+applies-by a k q s o lq = go (eqb k 1) (eqb k 2) (eqb k 3) (eqb k 4) (eqb k 5)
   where
-    go : (b₁ b₂ b₃ b₄ b₅ : Bool) → Applies a (pick b₁ (Enter q s o) (pick b₂ (Delete q s o) (pick b₃ (CreateSubject s) (pick b₄ (CreateObject s) (pick b₅ (DestroySubject s) (DestroyObject s))))))
-    go true b₂ b₃ b₄ b₅ = (lq, hs, ho)
-    go false true b₃ b₄ b₅ = (lq, hs, ho)
-    go false false true b₄ b₅ = hs
-    go false false false true b₅ = hs
-    go false false false false true = hs
-    go false false false false false = hs
+    op : (b₁ b₂ b₃ b₄ b₅ : Bool) → Operation
+    op b₁ b₂ b₃ b₄ b₅ = pick b₁ (Enter q s o) (pick b₂ (Delete q s o) (pick b₃ (CreateSubject s) (pick b₄ (CreateObject s) (pick b₅ (DestroySubject s) (DestroyObject s)))))
 
-grants-by : (k q s o : ℕ) → q < rights → Grants rights (operationBy k q s o)
-grants-by k q s o lq = go (eqb k 1) (eqb k 2) (eqb k 3) (eqb k 4) (eqb k 5)
-  where
-    go : (b₁ b₂ b₃ b₄ b₅ : Bool) → Grants rights (pick b₁ (Enter q s o) (pick b₂ (Delete q s o) (pick b₃ (CreateSubject s) (pick b₄ (CreateObject s) (pick b₅ (DestroySubject s) (DestroyObject s))))))
-    go true b₂ b₃ b₄ b₅ = lq
-    go false true b₃ b₄ b₅ = lq
-    go false false true b₄ b₅ = tt
-    go false false false true b₅ = tt
-    go false false false false true = tt
-    go false false false false false = tt
+    go : (b₁ b₂ b₃ b₄ b₅ : Bool) → (T (inOperation s (modelOf (op b₁ b₂ b₃ b₄ b₅))) → HasName a s) → (T (inOperation o (modelOf (op b₁ b₂ b₃ b₄ b₅))) → HasName a o) → Applies a (op b₁ b₂ b₃ b₄ b₅)
+    go true b₂ b₃ b₄ b₅ hs ho = (lq, hs (or-left (eqb s s) (eqb s o) (eqb-refl s)), ho (or-right (eqb o s) (eqb o o) (eqb-refl o)))
+    go false true b₃ b₄ b₅ hs ho = (lq, hs (or-left (eqb s s) (eqb s o) (eqb-refl s)), ho (or-right (eqb o s) (eqb o o) (eqb-refl o)))
+    go false false true b₄ b₅ hs ho = hs (eqb-refl s)
+    go false false false true b₅ hs ho = hs (eqb-refl s)
+    go false false false false true hs ho = hs (eqb-refl s)
+    go false false false false false hs ho = hs (eqb-refl s)
+
+grants : (a : List ℕ) (op : Operation) → Applies a op → Grants rights op
+grants a (Enter q s o) h = h .0
+grants a (Delete q s o) h = h .0
+grants a (CreateSubject s) h = tt
+grants a (CreateObject o) h = tt
+grants a (DestroySubject s) h = tt
+grants a (DestroyObject o) h = tt
 
 pub applies-at : (a : List ℕ) (c : Command) (j : ℕ) (op : Operation) → OperationsApply a c → j < c .operations → op ≡ operationAt c j → Applies a op
-applies-at a c j op h l e =
-    subst (Applies a) (sym e) (applies-by a (getD (c .operation) (4 * j) 0) (getD (c .operation) (4 * j + 1) 0) (getD (c .operation) (4 * j + 2) 0) (getD (c .operation) (4 * j + 3) 0) (h .right j l) (h .first j l) (h .second j l))
+applies-at a c j op h l e = subst (Applies a) (sym e) (h .all j l)
 
 -- ---- what is left of the operations, from where the loop stands, is the whole
 pub record Going (right : ℕ) (m : Matrix) (a : List ℕ) (c : Command) (j : ℕ) (x : Matrix) (leaked : Bool) : Type 0 where
@@ -95,7 +97,7 @@ module _ (right : ℕ) (m : Matrix) (a : List ℕ) (c : Command) (j : ℕ) (x : 
       let z : canDo (stateOf x) (valuesOf a) (operationOf c j) ≡ true = sym can-here ∙ not-false r t in
       let can : T (canDo (stateOf x) (valuesOf a) (modelOf op)) = test-holds (canDo (stateOf x) (valuesOf a) (modelOf op)) (ap (λ (p : Operation). canDo (stateOf x) (valuesOf a) (modelOf p)) e ∙ z) in
       let ap-op = applies-at a c j op h l e in
-      let gr : Grants rights op = subst (Grants rights) (sym e) (grants-by (getD (c .operation) (4 * j) 0) (getD (c .operation) (4 * j + 1) 0) (getD (c .operation) (4 * j + 2) 0) (getD (c .operation) (4 * j + 3) 0) (h .right j l)) in
+      let gr = grants a op ap-op in
       let st : stateOf y ≡ effect (stateOf x) (valuesOf a) (operationOf c j) =
       ap stateOf dy ∙ performed-state rights x (G .canonical) a op ap-op gr can ∙ ap (λ (p : Operation). effect (stateOf x) (valuesOf a) (modelOf p)) e in
       let nw : b ≡ entersNew (stateOf x) (valuesOf a) (operationOf c j) right = db ∙ ap (λ (p : Operation). entersNew (stateOf x) (valuesOf a) (modelOf p) right) e in
@@ -128,34 +130,36 @@ going-end right m a c j x leaked G h =
     }
 
 -- ---- what a call that passed the test of its actuals may rest on
-module _ (a : List ℕ) (c : Command) (F : Fits rights c) (r : Bool) (d : r ≡ all (actualFits bounded (c .parameters) (valuesOf a)) parameters 0) (t : not r ≡ false) where
-  named : (b : ℕ) → b < c .parameters → HasName a b
-  named b l =
-      let few = F .few-parameters in
-      let e : actualFits bounded (c .parameters) (valuesOf a) b ≡ true = all-at (actualFits bounded (c .parameters) (valuesOf a)) parameters 0 (sym d ∙ not-false r t) b (omega arith) (omega arith) in
-      let z : ltb b (c .parameters) ≡ true = lt-ltb b (c .parameters) l in
-      record { parameter = omega arith; name = ltb-true (getD a b 0) names (rw z at e) }
-
-  pub spares-apply : SparesApply a c
-  spares-apply = record { few-parameters = F .few-parameters; few-conditions = F .few-conditions; few-operations = F .few-operations; named = named }
+module _ (a : List ℕ) (c : Command) (F : Fits rights c) (r : Bool) (d : r ≡ all (actualFits bounded (meaning c) (valuesOf a)) parameters 0) (t : not r ≡ false) where
+  has-name : (b : ℕ) → b < c .parameters → T (named (meaning c) b) → HasName a b
+  has-name b l n = record {
+    parameter = omega (arith, F .few-parameters);
+    name = ltb→lt (getD a b 0) names (fits-name bounded (meaning c) (valuesOf a)
+        (test-holds (all (actualFits bounded (meaning c) (valuesOf a)) parameters 0) (sym d ∙ not-false r t)) (F .few-parameters) b l (named-used (meaning c) b n));
+  }
 
   pub conditions-apply : ConditionsApply a c
   conditions-apply = record {
     few = F .few-conditions;
-    all = λ j l. record {
-      number = omega (arith, F .few-conditions);
-      right = F .condition-right j l;
-      subject = named (getD (c .condition) (3 * j + 1) 0) (F .condition-subject j l);
-      object = named (getD (c .condition) (3 * j + 2) 0) (F .condition-object j l);
-    };
+    all = λ j l.
+        let s = conditionOf c j .subject in
+        let o = conditionOf c j .object in
+        record {
+          number = omega (arith, F .few-conditions);
+          right = F .condition-right j l;
+          subject = has-name s (F .condition-subject j l) (condition-names c s j l (or-left (eqb s s) (eqb s o) (eqb-refl s)));
+          object = has-name o (F .condition-object j l) (condition-names c o j l (or-right (eqb o s) (eqb o o) (eqb-refl o)));
+        };
   }
 
   pub operations-apply : OperationsApply a c
   operations-apply = record {
     few = F .few-operations;
-    right = F .operation-right;
-    first = λ j l. named (getD (c .operation) (4 * j + 2) 0) (F .operation-first j l);
-    second = λ j l. named (getD (c .operation) (4 * j + 3) 0) (F .operation-second j l);
+    all = λ j l.
+        let s = getD (c .operation) (4 * j + 2) 0 in
+        let o = getD (c .operation) (4 * j + 3) 0 in
+        applies-by a (getD (c .operation) (4 * j) 0) (getD (c .operation) (4 * j + 1) 0) s o (F .operation-right j l)
+        (λ n. has-name s (F .operation-first j l) (operation-names c s j l n)) (λ n. has-name o (F .operation-second j l) (operation-names c o j l n));
   }
 
 -- ---- what a call answers
@@ -171,50 +175,43 @@ module _ (right : ℕ) (m : Matrix) (c : Command) (a : List ℕ) (K : Canonical 
   abbrev end : Outcome
   end = done (effectAll (stateOf m) (valuesOf a) (tabulate (operationOf c) (c .operations) 0)) (entersAnyNew (stateOf m) (valuesOf a) (tabulate (operationOf c) (c .operations) 0))
 
-  module _ (r₁ : Bool) (d₁ : r₁ ≡ all (actualFits bounded (c .parameters) (valuesOf a)) parameters 0) where
+  module _ (r₁ : Bool) (d₁ : r₁ ≡ all (actualFits bounded (meaning c) (valuesOf a)) parameters 0) where
     pub refused-12 : (x : Executed) → not r₁ ≡ true → x ≡ refusedExecuted 12 m → ExecutedAs right outcome m x
     refused-12 x t e = executed-refused right 12 m outcome x K (let z = sym d₁ ∙ not-true r₁ t in rw z) e
 
-    module _ (t₁ : not r₁ ≡ false) (r₂ : Bool) (d₂ : r₂ ≡ all (spareExists (meaning c) (view (m .kinds) []) (valuesOf a)) (c .parameters) 0) where
-      passed-12 : all (actualFits bounded (c .parameters) (valuesOf a)) parameters 0 ≡ true
+    module _ (t₁ : not r₁ ≡ false) (r₃ : Bool) (d₃ : r₃ ≡ holdAll (view (m .kinds) (m .cells)) (valuesOf a) (tabulate (conditionOf c) (c .conditions) 0)) where
+      passed-12 : all (actualFits bounded (meaning c) (valuesOf a)) parameters 0 ≡ true
       passed-12 = sym d₁ ∙ not-false r₁ t₁
 
-      pub refused-13 : (x : Executed) → not r₂ ≡ true → x ≡ refusedExecuted 13 m → ExecutedAs right outcome m x
-      refused-13 x t e = executed-refused right 13 m outcome x K (let z = sym d₂ ∙ not-true r₂ t in rw (passed-12, z)) e
+      pub refused-14 : (x : Executed) → not r₃ ≡ true → x ≡ refusedExecuted 14 m → ExecutedAs right outcome m x
+      refused-14 x t e = executed-refused right 14 m outcome x K (let z = sym d₃ ∙ not-true r₃ t in rw (passed-12, z)) e
 
-      module _ (t₂ : not r₂ ≡ false) (r₃ : Bool) (d₃ : r₃ ≡ holdAll (view (m .kinds) (m .cells)) (valuesOf a) (tabulate (conditionOf c) (c .conditions) 0)) where
-        passed-13 : all (spareExists (meaning c) (view (m .kinds) []) (valuesOf a)) (c .parameters) 0 ≡ true
-        passed-13 = sym d₂ ∙ not-false r₂ t₂
+      module _ (t₃ : not r₃ ≡ false) (w : Ran) (d₄ : RanAs right m a (tabulate (operationOf c) (c .operations) 0) w) where
+        passed-14 : holdAll (view (m .kinds) (m .cells)) (valuesOf a) (tabulate (conditionOf c) (c .conditions) 0) ≡ true
+        passed-14 = sym d₃ ∙ not-false r₃ t₃
 
-        pub refused-14 : (x : Executed) → not r₃ ≡ true → x ≡ refusedExecuted 14 m → ExecutedAs right outcome m x
-        refused-14 x t e = executed-refused right 14 m outcome x K (let z = sym d₃ ∙ not-true r₃ t in rw (passed-12, passed-13, z)) e
+        pub refused-15 : (x : Executed) → not (w .done) ≡ true → x ≡ refusedExecuted 15 m → ExecutedAs right outcome m x
+        refused-15 x t e = executed-refused right 15 m outcome x K (let z = sym (d₄ .able) ∙ not-true (w .done) t in rw (passed-12, passed-14, z)) e
 
-        module _ (t₃ : not r₃ ≡ false) (w : Ran) (d₄ : RanAs right m a (tabulate (operationOf c) (c .operations) 0) w) where
-          passed-14 : holdAll (view (m .kinds) (m .cells)) (valuesOf a) (tabulate (conditionOf c) (c .conditions) 0) ≡ true
-          passed-14 = sym d₃ ∙ not-false r₃ t₃
+        module _ (t₄ : not (w .done) ≡ false) where
+          is-done : w .done ≡ true
+          is-done = not-false (w .done) t₄
 
-          pub refused-15 : (x : Executed) → not (w .done) ≡ true → x ≡ refusedExecuted 15 m → ExecutedAs right outcome m x
-          refused-15 x t e = executed-refused right 15 m outcome x K (let z = sym (d₄ .able) ∙ not-true (w .done) t in rw (passed-12, passed-13, passed-14, z)) e
+          ended : outcome ≡ end
+          ended = let z = sym (d₄ .able) ∙ is-done in rw (passed-12, passed-14, z)
 
-          module _ (t₄ : not (w .done) ≡ false) where
-            is-done : w .done ≡ true
-            is-done = not-false (w .done) t₄
+          finished : (x : Executed) → x .matrix ≡ w .matrix → x .answer ≡ pick (w .leaked) Leaked Done → ExecutedAs right outcome m x
+          finished x em ea =
+              let u : x .answer ≡ answerOf right end = ea ∙ ap (λ (b : Bool). pick b Leaked Done) (d₄ .leak is-done) in
+              let s : stateOf (x .matrix) ≡ after end (stateOf m) = ap stateOf em ∙ d₄ .state is-done in
+              record {
+                answer = u ∙ ap (answerOf right) (sym ended);
+                state = s ∙ ap (λ (o : Outcome). after o (stateOf m)) (sym ended);
+                canonical = subst (λ (y : Matrix). Canonical rights (y .kinds) (y .cells)) (sym em) (d₄ .canonical);
+              }
 
-            ended : outcome ≡ end
-            ended = let z = sym (d₄ .able) ∙ is-done in rw (passed-12, passed-13, passed-14, z)
+          pub done-leaked : w .leaked ≡ true → ExecutedAs right outcome m (record { answer = Leaked; matrix = w .matrix })
+          done-leaked z = finished (record { answer = Leaked; matrix = w .matrix }) refl (rw z)
 
-            finished : (x : Executed) → x .matrix ≡ w .matrix → x .answer ≡ pick (w .leaked) Leaked Done → ExecutedAs right outcome m x
-            finished x em ea =
-                let u : x .answer ≡ answerOf right end = ea ∙ ap (λ (b : Bool). pick b Leaked Done) (d₄ .leak is-done) in
-                let s : stateOf (x .matrix) ≡ after end (stateOf m) = ap stateOf em ∙ d₄ .state is-done in
-                record {
-                  answer = u ∙ ap (answerOf right) (sym ended);
-                  state = s ∙ ap (λ (o : Outcome). after o (stateOf m)) (sym ended);
-                  canonical = subst (λ (y : Matrix). Canonical rights (y .kinds) (y .cells)) (sym em) (d₄ .canonical);
-                }
-
-            pub done-leaked : w .leaked ≡ true → ExecutedAs right outcome m (record { answer = Leaked; matrix = w .matrix })
-            done-leaked z = finished (record { answer = Leaked; matrix = w .matrix }) refl (rw z)
-
-            pub done-quiet : w .leaked ≡ false → ExecutedAs right outcome m (record { answer = Done; matrix = w .matrix })
-            done-quiet z = finished (record { answer = Done; matrix = w .matrix }) refl (rw z)
+          pub done-quiet : w .leaked ≡ false → ExecutedAs right outcome m (record { answer = Done; matrix = w .matrix })
+          done-quiet z = finished (record { answer = Done; matrix = w .matrix }) refl (rw z)

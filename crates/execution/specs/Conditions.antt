@@ -1,8 +1,8 @@
--- What the functions over a command's conditions and spare parameters ask.
+-- What the functions over a command's conditions ask.
 use Prim.Native.Nat.{ℕ, _+_, _*_, _≤_, _<_}
 use mathlib.Core.List.{List}
 use lib.ListN.{getD}
-use Rattle.protection.specs.Limits.{rights, parameters, conditions, operations}
+use Rattle.protection.specs.Limits.{rights, conditions}
 use Rattle.commands.specs.declared.Command.{Command}
 use Rattle.operations.specs.Operations.{HasName}
 
@@ -16,9 +16,3 @@ pub record ConditionApplies (a : List ℕ) (c : Command) (j : ℕ) : Type 0 wher
 pub record ConditionsApply (a : List ℕ) (c : Command) : Type 0 where
   pub few : c .conditions ≤ conditions
   pub all : (j : ℕ) → j < c .conditions → ConditionApplies a c j
-
-pub record SparesApply (a : List ℕ) (c : Command) : Type 0 where
-  pub few-parameters : c .parameters ≤ parameters
-  pub few-conditions : c .conditions ≤ conditions
-  pub few-operations : c .operations ≤ operations
-  pub named : (b : ℕ) → b < c .parameters → HasName a b

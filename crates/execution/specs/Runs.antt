@@ -1,9 +1,9 @@
 -- What a rule run answers and leaves.
-use Prim.Native.Nat.{ℕ, _+_, _*_, _≤_, _<_}
+use Prim.Native.Nat.{ℕ, _≤_, _<_}
 use mathlib.Core.Path.{_≡_}
 use mathlib.Core.Bool.{Bool, true, false}
 use mathlib.Core.List.{List}
-use lib.ListN.{getD, getElem?}
+use lib.ListN.{getElem?}
 use Rattle.cases.specs.Cases.{pick}
 use Rattle.protection.specs.Limits.{rights, operations}
 use Rattle.protection.specs.Command.{Operation, valuesOf}
@@ -12,10 +12,11 @@ use Rattle.protection.specs.Leak.{after}
 use Rattle.matrix.specs.Canonical.{Canonical}
 use Rattle.matrix.specs.Matrices.{stateOf}
 use Rattle.matrix.specs.declared.Matrix.{Matrix}
+use Rattle.commands.specs.Contents.{operationAt}
 use Rattle.commands.specs.declared.Command.{Command}
 use Rattle.policy.specs.Contents.{systemOf}
 use Rattle.policy.specs.declared.Policy.{Policy}
-use Rattle.operations.specs.Operations.{HasName}
+use Rattle.operations.specs.Operations.{Applies}
 use Rattle.execution.specs.declared.Answer.{Answer}
 use Rattle.execution.specs.declared.Answer.the-variants.{Refused, Done, Leaked}
 use Rattle.execution.specs.declared.Executed.{Executed}
@@ -24,9 +25,7 @@ use Rattle.execution.specs.declared.Ran.{Ran}
 -- the operations have rights that a cell can hold, and their parameters have names
 pub record OperationsApply (a : List ℕ) (c : Command) : Type 0 where
   pub few : c .operations ≤ operations
-  pub right : (j : ℕ) → j < c .operations → getD (c .operation) (4 * j + 1) 0 < rights
-  pub first : (j : ℕ) → j < c .operations → HasName a (getD (c .operation) (4 * j + 2) 0)
-  pub second : (j : ℕ) → j < c .operations → HasName a (getD (c .operation) (4 * j + 3) 0)
+  pub all : (j : ℕ) → j < c .operations → Applies a (operationAt c j)
 
 -- all operations were done, and this is what they left; or one could not be done
 pub record RanAs (right : ℕ) (m : Matrix) (a : List ℕ) (ops : List Operation) (x : Ran) : Type 0 where

@@ -1,63 +1,39 @@
-// What is asked before the first operation: the actuals, the spare parameters and the conditions.
+// What is asked before the first operation: the actuals and the conditions.
 ghost use mathlib.Core.Path.{_≡_};
-ghost use mathlib.Core.List.{[]};
-ghost use Prim.Native.Nat.{_<_, _≤_};
-ghost use Rattle.protection.specs.Limits.{parameters};
+ghost use Prim.Native.Nat.{_<_};
+ghost use Rattle.protection.specs.Limits.{rights, parameters};
 ghost use Rattle.cases.specs.Cases.{all, tabulate};
 ghost use Rattle.protection.specs.Command.{valuesOf};
-ghost use Rattle.protection.specs.Execution.{bounded, holds, holdAll, spareExists, actualFits};
+ghost use Rattle.protection.specs.Execution.{bounded, holds, holdAll, actualFits};
 ghost use Rattle.matrix.specs.Bytes.{view};
 ghost use Rattle.commands.specs.Contents.{conditionOf, meaning};
-ghost use Rattle.execution.specs.Conditions.{ConditionApplies, ConditionsApply, SparesApply};
+ghost use Rattle.commands.specs.Fits.{Fits};
+ghost use Rattle.execution.specs.Conditions.{ConditionApplies, ConditionsApply};
 use commands::Command;
 use matrix::Matrix;
 
-// Actual b is a name, or 255 in an unused position.
-fn actual_fits(k: u8, a: [u8; Command::PARAMETERS], b: usize) -> bool
-    requires { ⌜ b < parameters ⌝ }
-    ensures { λ r. ⌜ r ≡ actualFits bounded k (valuesOf a) b ⌝ }
+// Actual b fits: a name, any byte for a spare parameter, 255 in an unused position.
+fn actual_fits(c: Command, a: [u8; Command::PARAMETERS], b: u8) -> bool
+    requires { ⌜ Fits rights c × (b < parameters) ⌝ }
+    ensures { λ r. ⌜ r ≡ actualFits bounded (meaning c) (valuesOf a) b ⌝ }
 {
-    let x = a[b];
-    if b < k as usize {
-        return (x as usize) < Matrix::NAMES;
+    let at = b as usize;
+    let x = a[at];
+    if c.parameters <= b {
+        return x == Command::UNUSED;
     }
-    x == Command::UNUSED
-}
-
-pub fn actuals_fit(k: u8, a: [u8; Command::PARAMETERS]) -> bool
-    ensures { λ r. ⌜ r ≡ all (actualFits bounded k (valuesOf a)) parameters 0 ⌝ }
-{
-    for b in 0..Command::PARAMETERS {
-        if !actual_fits(k, a, b) {
-            return false;
-        }
-    }
-    true
-}
-
-// Parameter b is named, or its name exists.
-fn spare_exists(
-    kinds: &[u8; Matrix::NAMES],
-    c: Command,
-    a: [u8; Command::PARAMETERS],
-    b: u8,
-) -> bool
-    requires { ⌜ SparesApply a c × (b < c .parameters) ⌝ }
-    ensures { λ r. ⌜ r ≡ spareExists (meaning c) (view (now (kinds .entry)) []) (valuesOf a) b ⌝ }
-{
-    if c.names(b) {
+    if (x as usize) < Matrix::NAMES {
         return true;
     }
-    matrix::is_object(kinds[operations::name_of(a, b)])
+    !c.names(b)
 }
 
-pub fn spares_exist(kinds: &[u8; Matrix::NAMES], c: Command, a: [u8; Command::PARAMETERS]) -> bool
-    requires { ⌜ SparesApply a c ⌝ }
-    ensures { λ r. ⌜ r ≡ all (spareExists (meaning c) (view (now (kinds .entry)) []) (valuesOf a)) (c .parameters) 0 ⌝ }
+pub fn actuals_fit(c: Command, a: [u8; Command::PARAMETERS]) -> bool
+    requires { ⌜ Fits rights c ⌝ }
+    ensures { λ r. ⌜ r ≡ all (actualFits bounded (meaning c) (valuesOf a)) parameters 0 ⌝ }
 {
-    let k = c.parameters;
-    for b in 0..k {
-        if !spare_exists(kinds, c, a, b) {
+    for b in 0..Command::PARAMETERS as u8 {
+        if !actual_fits(c, a, b) {
             return false;
         }
     }

@@ -77,12 +77,8 @@ fn run_command(m: Matrix, c: Command, a: [u8; Command::PARAMETERS], right: u8) -
     requires { ⌜ Canonical rights (m .kinds) (m .cells) × Fits rights c ⌝ }
     ensures { λ r. ⌜ ExecutedAs right (executeCommand bounded (stateOf m) (some (meaning c)) (valuesOf a)) m r ⌝ }
 {
-    let k = c.parameters;
-    if !conditions::actuals_fit(k, a) {
+    if !conditions::actuals_fit(c, a) {
         return refused_with(12, m);
-    }
-    if !conditions::spares_exist(&m.kinds, c, a) {
-        return refused_with(13, m);
     }
     if !conditions::conditions_hold(&m.kinds, &m.cells, c, a) {
         return refused_with(14, m);

@@ -17,13 +17,18 @@ pub extern "C" fn access_check(file: &[u8]) -> u8
     read.refused
 }
 
-// Runs a rule on the file: 0 done, else the refusal, with the file as it was.
+// Runs a command (document 01: a rule) on the file: 0 done, else the refusal, with the file as it was.
 #[no_mangle]
-pub extern "C" fn access_run(file: &mut [u8], rule: u8, a0: u8, a1: u8, a2: u8, a3: u8) -> u8
-    ensures { λ r. ⌜ FileRun (now (file .entry)) (record { command = rule; a0 = a0; a1 = a1; a2 = a2; a3 = a3 }) r (now (file .exit)) ⌝ }
+pub extern "C" fn access_run(file: &mut [u8], command: u8, a0: u8, a1: u8, a2: u8, a3: u8) -> u8
+    ensures { λ r. ⌜ FileRun (now (file .entry)) (record { command = command; a0 = a0; a1 = a1; a2 = a2; a3 = a3 }) r (now (file .exit)) ⌝ }
 {
-    update::run(file, rule, a0, a1, a2, a3)
+    update::run(file, command, a0, a1, a2, a3)
 }
+
+// The answers for a leak: a replay's, and the judge's.
+const LEAK: u8 = 255;
+
+const UNSAFE: u8 = LEAK;
 
 // Replays a trace: 0 no leak, 255 a leak at the step, else the refusal at the step.
 #[no_mangle]
@@ -38,7 +43,7 @@ pub extern "C" fn access_replay(file: &[u8], steps: &[u8], right: u8, step: &mut
         }
         Replay::Leak(i) => {
             *step = i as u64;
-            255
+            LEAK
         }
         Replay::Refused { by, step: i } => {
             *step = i as u64;
@@ -46,9 +51,6 @@ pub extern "C" fn access_replay(file: &[u8], steps: &[u8], right: u8, step: &mut
         }
     }
 }
-
-// The judge's code for unsafe.
-const UNSAFE: u8 = 255;
 
 // Judges whether the right can leak: 0 safe, 255 unsafe, both with the number of steps written, else the refusal, with 0 steps.
 #[no_mangle]

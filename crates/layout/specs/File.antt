@@ -1,4 +1,4 @@
--- Where a file holds what (document 01, "The matrix and the house file"). A byte past the file's end reads as 0.
+-- Where a file holds what (document 01, "The matrix and the house file"). A byte past its end reads as 0; each refusal goes by bytes that earlier tests found.
 use Prim.Native.Nat.{ℕ, zero, suc, _+_, _*_, _-_}
 use mathlib.Core.List.{List}
 use lib.ListN.{getD, take, drop}

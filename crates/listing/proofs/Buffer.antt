@@ -13,7 +13,7 @@ use Rattle.layout.specs.File.{rightsOf}
 use Rattle.policy.specs.Refusals.{refusal}
 use Rattle.policy.specs.Contents.{policyOf, fileState, fileSystem}
 use Rattle.policy.proofs.Accepted.{accepted}
-use Rattle.safety.specs.Judgement.{singleSteps, callerRefusal}
+use Rattle.safety.specs.Judgement.{singleOperations, callerRefusal}
 use Rattle.safety.proofs.Counts.{few-steps}
 use Rattle.listing.specs.Listing.{bufferBytes}
 
@@ -25,7 +25,7 @@ long-enough f z h = omega (arith, few-steps (rightsOf f) (fileState f) (accepted
 pub never-24 : (f : List ℕ) (r : ℕ) → refusal f ≡ 0 → callerRefusal (fileSystem f) (fileState f) r bufferBytes ≡ 24 → ⊥
 unfolding callerRefusal
 never-24 f r z =
-    go (leb (fileSystem f .rights) r) (singleSteps (fileSystem f .commands)) (ltb startNames (namesOf (fileState f))) refl (ltb bufferBytes (5 * stepBound (fileSystem f .rights) (fileState f))) refl
+    go (leb (fileSystem f .rights) r) (singleOperations (fileSystem f .commands)) (ltb startNames (namesOf (fileState f))) refl (ltb bufferBytes (5 * stepBound (fileSystem f .rights) (fileState f))) refl
   where
     go : (a b c : Bool) → ltb startNames (namesOf (fileState f)) ≡ c → (d : Bool) → ltb bufferBytes (5 * stepBound (fileSystem f .rights) (fileState f)) ≡ d
         → _≡_ {A = ℕ} (pick a 21 (pick (not b) 22 (pick c 23 (pick d 24 0)))) 24 → ⊥

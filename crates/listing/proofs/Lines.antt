@@ -11,13 +11,13 @@ use Rattle.commands.specs.Contents.{missing}
 use Rattle.commands.specs.declared.Command.{Command}
 use Rattle.policy.specs.declared.Policy.{Policy}
 use Rattle.trace.specs.Traces.{stepCall, calls}
-use Rattle.listing.specs.Listing.{blanksOf, line, stepLine, lines}
+use Rattle.listing.specs.Listing.{parametersOf, line, stepLine, lines}
 use Rattle.listing.specs.Writing.{Put, PutWithin}
 use Rattle.listing.proofs.Written.{put-then, put-none}
 
 -- the array has 32 places, and behind them stands no rule
-pub no-blanks : (X : Type 0) (f : Command → X) (p : Policy) (i k : ℕ) → length (map f (p .command)) ≡ 32 → 32 ≤ i → k ≡ 0 → k ≡ blanksOf p i
-no-blanks X f p i k e h z = let l : length (p .command) ≡ 32 = sym (length-map (p .command) f) ∙ e in z ∙ ap (λ (c : Command). c .parameters) (sym (List·getD-eq-default (p .command) missing (omega arith)))
+pub no-parameters : (X : Type 0) (f : Command → X) (p : Policy) (i k : ℕ) → length (map f (p .command)) ≡ 32 → 32 ≤ i → k ≡ 0 → k ≡ parametersOf p i
+no-parameters X f p i k e h z = let l : length (p .command) ≡ 32 = sym (length-map (p .command) f) ∙ e in z ∙ ap (λ (c : Command). c .parameters) (sym (List·getD-eq-default (p .command) missing (omega arith)))
 
 lines-more : (p : Policy) (xs : List Call) (x : Call) → lines p (xs ++ (x ∷ [])) ≡ lines p xs ++ stepLine p x
 lines-more p [] x = append-nil (stepLine p x)
@@ -31,7 +31,7 @@ tabulate-more f (suc n) j = let z : suc j + n ≡ j + suc n = omega arith in ap 
 pub lines-start : (b t : List ℕ) (p : Policy) (at : ℕ) → Put b at (lines p (calls t 0)) at b
 lines-start b t p at = put-none b at
 
-pub lines-next : (b b' b'' t : List ℕ) (p : Policy) (from at i n k r : ℕ) → from + 20 * n ≤ length b → Put b from (lines p (calls t i)) at b' → k ≡ blanksOf p (getD t (5 * i) 0) → PutWithin 20 b' at (line k (stepCall t i)) r b''
+pub lines-next : (b b' b'' t : List ℕ) (p : Policy) (from at i n k r : ℕ) → from + 20 * n ≤ length b → Put b from (lines p (calls t i)) at b' → k ≡ parametersOf p (getD t (5 * i) 0) → PutWithin 20 b' at (line k (stepCall t i)) r b''
     → Put b from (lines p (calls t (i + 1))) r b''
 lines-next b b' b'' t p from at i n k r h q z e =
     let s : lines p (calls t (i + 1)) ≡ lines p (calls t i) ++ line k (stepCall t i) =

@@ -53,12 +53,12 @@ head word n = word ++ decimal n ++ (newline ∷ [])
 abbrev pub line : ℕ → Call → List ℕ
 line k x = decimal (x .command) ++ spaced (take k (x .a0 ∷ x .a1 ∷ x .a2 ∷ x .a3 ∷ [])) ++ (newline ∷ [])
 
--- the blanks k of rule i
-abbrev pub blanksOf : Policy → ℕ → ℕ
-blanksOf p i = getD (p .command) i missing .parameters
+-- the number k of command i's parameters. The judge's steps are of commands that the policy has; a number past the last would have none.
+abbrev pub parametersOf : Policy → ℕ → ℕ
+parametersOf p i = getD (p .command) i missing .parameters
 
 abbrev pub stepLine : Policy → Call → List ℕ
-stepLine p x = line (blanksOf p (x .command)) x
+stepLine p x = line (parametersOf p (x .command)) x
 
 abbrev pub lines : Policy → List Call → List ℕ
 lines p [] = []

@@ -19,13 +19,27 @@ pub record PutWithin (most : ℕ) (b : List ℕ) (at : ℕ) (s : List ℕ) (r : 
   pub put : Put b at s r b'
   pub few : r ≤ at + most
 
+-- at most so many bytes: a number of a line, which is a byte; an actual behind its space; a line of a command's number, four actuals and a newline
+abbrev pub numberBytes : ℕ
+numberBytes = 3
+
+abbrev pub actualBytes : ℕ
+actualBytes = 1 + numberBytes
+
+abbrev pub lineBytes : ℕ
+lineBytes = numberBytes + 4 * actualBytes + 1
+
+-- the first line: `UNSAFE`, a space, a number below 10,000 and a newline
+abbrev pub headBytes : ℕ
+headBytes = 12
+
 -- an actual of a line, where it is one of the k
 abbrev pub shownActual : Bool → ℕ → List ℕ
 shownActual b a = pick b (space ∷ decimal a) []
 
--- room for every listing: a first line of at most 12 bytes, and at most 20 a step
+-- room for every listing: a first line, and a line a step
 abbrev pub listingBytes : ℕ
-listingBytes = 12 + 20 * mostSteps
+listingBytes = headBytes + lineBytes * mostSteps
 
 -- n steps are in the step buffer t, and their lines fit into b
 pub record Room (b : List ℕ) (n : ℕ) (t : List ℕ) : Type 0 where

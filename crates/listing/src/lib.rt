@@ -4,7 +4,7 @@ ghost use mathlib.Core.List.{[], _∷_, _++_};
 ghost use Prim.Native.Nat.{_+_, _*_, _≤_, _<_};
 ghost use lib.ListN.{length, take};
 ghost use Rattle.listing.specs.Listing.{unsafeWord, decimal, spaced, head, line, lines, printed, bufferBytes, listing};
-ghost use Rattle.listing.specs.Writing.{Put, PutWithin, shownActual, Room, listingBytes, Answered};
+ghost use Rattle.listing.specs.Writing.{Put, PutWithin, numberBytes, actualBytes, lineBytes, shownActual, Room, listingBytes, Answered};
 ghost use Rattle.trace.specs.Traces.{stepCall, calls};
 ghost use Rattle.safety.specs.Demand3.{stepsWritten};
 use matrix::Matrix;
@@ -14,8 +14,13 @@ use safety::Judgement;
 // The most steps that the judge writes for an accepted file of at most 30 names: all rights, and 30 names that are all subjects.
 const STEPS: usize = (Matrix::RIGHTS as usize) * (Matrix::START + 1) * (Matrix::START + 2) + 4;
 
-// Room for every listing: a first line of at most 12 bytes, and at most 20 a step.
-pub const BYTES: usize = 12 + 20 * STEPS;
+// The first line has at most so many bytes, and each of the others.
+const HEAD: usize = 12;
+
+const LINE: usize = 20;
+
+// Room for every listing.
+pub const BYTES: usize = HEAD + LINE * STEPS;
 
 // Each of these writes from a place on, and answers the place behind what it wrote.
 fn put(out: &mut [u8], at: usize, s: &[u8]) -> usize
@@ -46,10 +51,10 @@ fn put_decimal(out: &mut [u8], at: usize, n: usize) -> usize
     put_byte(out, next, 48 + (n % 10) as u8)
 }
 
-// A byte in decimal takes at most three digits; the numbers of rules and names have one or two, and they are written directly.
+// A byte in decimal takes at most three digits; the numbers of commands and names have one or two, and they are written directly.
 fn put_number(out: &mut [u8], at: usize, n: u8) -> usize
-    requires { ⌜ at + 3 ≤ length (now out) ⌝ }
-    ensures { λ r. ⌜ PutWithin 3 (now (out .entry)) at (decimal n) r (now (out .exit)) ⌝ }
+    requires { ⌜ at + numberBytes ≤ length (now out) ⌝ }
+    ensures { λ r. ⌜ PutWithin numberBytes (now (out .entry)) at (decimal n) r (now (out .exit)) ⌝ }
 {
     if n < 10 {
         return put_byte(out, at, 48 + n);
@@ -63,8 +68,8 @@ fn put_number(out: &mut [u8], at: usize, n: u8) -> usize
 
 // An actual behind a space, where it is one of the k.
 fn put_actual(out: &mut [u8], at: usize, shown: bool, a: u8) -> usize
-    requires { ⌜ at + 4 ≤ length (now out) ⌝ }
-    ensures { λ r. ⌜ PutWithin 4 (now (out .entry)) at (shownActual shown a) r (now (out .exit)) ⌝ }
+    requires { ⌜ at + actualBytes ≤ length (now out) ⌝ }
+    ensures { λ r. ⌜ PutWithin actualBytes (now (out .entry)) at (shownActual shown a) r (now (out .exit)) ⌝ }
 {
     if !shown {
         return at;
@@ -75,8 +80,8 @@ fn put_actual(out: &mut [u8], at: usize, shown: bool, a: u8) -> usize
 
 // The first k of four actuals.
 fn put_actuals(out: &mut [u8], at: usize, k: u8, a0: u8, a1: u8, a2: u8, a3: u8) -> usize
-    requires { ⌜ at + 16 ≤ length (now out) ⌝ }
-    ensures { λ r. ⌜ PutWithin 16 (now (out .entry)) at (spaced (take k (a0 ∷ a1 ∷ a2 ∷ a3 ∷ []))) r (now (out .exit)) ⌝ }
+    requires { ⌜ at + 4 * actualBytes ≤ length (now out) ⌝ }
+    ensures { λ r. ⌜ PutWithin (4 * actualBytes) (now (out .entry)) at (spaced (take k (a0 ∷ a1 ∷ a2 ∷ a3 ∷ []))) r (now (out .exit)) ⌝ }
 {
     let b1 = put_actual(out, at, 0 < k, a0);
     let b2 = put_actual(out, b1, 1 < k, a1);
@@ -84,20 +89,20 @@ fn put_actuals(out: &mut [u8], at: usize, k: u8, a0: u8, a1: u8, a2: u8, a3: u8)
     put_actual(out, b3, 3 < k, a3)
 }
 
-// A step's line: the rule's number and the first k actuals.
+// A step's line: the command's number and the first k actuals.
 fn put_line(out: &mut [u8], at: usize, k: u8, command: u8, a0: u8, a1: u8, a2: u8, a3: u8) -> usize
-    requires { ⌜ at + 20 ≤ length (now out) ⌝ }
-    ensures { λ r. ⌜ PutWithin 20 (now (out .entry)) at (line k (record { command = command; a0 = a0; a1 = a1; a2 = a2; a3 = a3 })) r (now (out .exit)) ⌝ }
+    requires { ⌜ at + lineBytes ≤ length (now out) ⌝ }
+    ensures { λ r. ⌜ PutWithin lineBytes (now (out .entry)) at (line k (record { command = command; a0 = a0; a1 = a1; a2 = a2; a3 = a3 })) r (now (out .exit)) ⌝ }
 {
     let b1 = put_number(out, at, command);
     let b2 = put_actuals(out, b1, k, a0, a1, a2, a3);
     put_byte(out, b2, b'\n')
 }
 
-// The line of step i, whose rule has k blanks.
+// The line of step i, whose command has k parameters.
 fn put_step(out: &mut [u8], at: usize, k: u8, steps: &[u8], i: usize) -> usize
-    requires { ⌜ (at + 20 ≤ length (now out)) × (5 * i + 5 ≤ length (now steps)) ⌝ }
-    ensures { λ r. ⌜ PutWithin 20 (now (out .entry)) at (line k (stepCall (now (steps .entry)) i)) r (now (out .exit)) ⌝ }
+    requires { ⌜ (at + lineBytes ≤ length (now out)) × (5 * i + 5 ≤ length (now steps)) ⌝ }
+    ensures { λ r. ⌜ PutWithin lineBytes (now (out .entry)) at (line k (stepCall (now (steps .entry)) i)) r (now (out .exit)) ⌝ }
 {
     let from = 5 * i;
     put_line(
@@ -112,9 +117,9 @@ fn put_step(out: &mut [u8], at: usize, k: u8, steps: &[u8], i: usize) -> usize
     )
 }
 
-// The lines of the first n steps; a number that no rule has stands for no blanks.
+// The lines of the first n steps; a number that no command has stands for no parameters.
 fn put_lines(out: &mut [u8], from: usize, p: Policy, steps: &[u8], n: usize) -> usize
-    requires { ⌜ (from + 20 * n ≤ length (now out)) × (5 * n ≤ length (now steps)) ⌝ }
+    requires { ⌜ (from + lineBytes * n ≤ length (now out)) × (5 * n ≤ length (now steps)) ⌝ }
     ensures { λ r. ⌜ Put (now (out .entry)) from (lines p (calls (now (steps .entry)) n)) r (now (out .exit)) ⌝ }
 {
     let mut at = from;

@@ -8,7 +8,7 @@ use Rattle.rights.specs.Rights.{has, number}
 use Rattle.protection.specs.Limits.{names, rights}
 use Rattle.protection.specs.State.{Kind, absent, object, subject, isObject, isSubject, State}
 
--- "0 absent, 1 object that is no subject, 2 subject"
+-- "0 absent, 1 object that is no subject, 2 subject"; a byte above 2 is refused (6), and reads as 2
 abbrev pub kindOf : ℕ → Kind
 kindOf zero = absent
 kindOf (suc zero) = object

@@ -44,7 +44,7 @@ policyOf f =
 abbrev pub refusedRead : ℕ → PolicyRead
 refusedRead n = record { refused = n; policy = noPolicy }
 
--- the refusal's number, or 0 and the file's contents
+-- the refusal's number and a policy of nothing, or 0 and the file's contents
 unfoldable pub policyRead : List ℕ → PolicyRead
 policyRead f = pick (eqb (refusal f) 0) (record { refused = 0; policy = policyOf f }) (refusedRead (refusal f))
 

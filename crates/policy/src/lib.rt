@@ -33,7 +33,8 @@ struct CommandsRead {
 impl Policy {
     pub const COMMANDS: usize = layout::COMMANDS;
 
-    pub fn none() -> Self
+    // What goes with a refusal.
+    fn none() -> Self
         ensures { λ r. ⌜ r ≡ noPolicy ⌝ }
     {
         Policy {

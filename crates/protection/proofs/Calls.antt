@@ -1,24 +1,24 @@
 -- A call of a command of one operation: it is carried out exactly where its actuals fit, its conditions hold and its operation can be done, with or
 -- without a bound on names. Assumes nothing.
 use mathlib.Core.Path.{_≡_, refl, sym, ap, _∙_, subst}
-use mathlib.Core.Bool.{Bool, true, not, _&&_, or-false}
+use mathlib.Core.Bool.{Bool, true, false, not, _&&_, _||_, or-false}
 use mathlib.Core.List.{List, [], _∷_}
 use mathlib.Core.Option.{Option, none, some}
+use mathlib.Core.Logic.{⊎-elim}
 use Prim.Native.Nat.{ℕ, _≤_, _<_}
 use native.Mathlib.Omega.{arith}
-use borrow.Author.Tests.{lt-ltb}
-use lib.Dec.{T, ltb→lt}
+use lib.Dec.{T, eqb, eqb→eq, ltb→lt}
 use lib.ListN.{getElem?}
 use Rattle.cases.specs.Cases.{all}
-use Rattle.cases.proofs.Bools.{and-left, and-right, and-intro}
-use Rattle.cases.proofs.Loops.{all-one}
+use Rattle.cases.proofs.Bools.{and-left, and-intro, or-cases, or-left}
 use Rattle.protection.specs.Limits.{names, parameters}
 use Rattle.protection.specs.State.{State}
-use Rattle.protection.specs.Command.{Condition, Operation, enter, delete, createSubject, createObject, destroySubject, destroyObject, Command, System, Call, Actuals, actuals}
-use Rattle.protection.specs.Execution.{bounded, holdAll, spareExists, actualFits, canDo, effect, entersNew, canDoAll, effectAll, entersAnyNew, Outcome, refused, done, executeCommand, execute}
+use Rattle.protection.specs.Command.{Condition, Operation, enter, delete, createSubject, createObject, destroySubject, destroyObject, Command, System, Call, Actuals, actuals, inConditions, inOperation, inOperations}
+use Rattle.protection.specs.Execution.{bounded, holdAll, actualFits, canDo, effect, entersNew, canDoAll, effectAll, entersAnyNew, Outcome, refused, done, executeCommand, execute}
 use Rattle.protection.specs.Leak.{isRefused}
 use Rattle.protection.specs.Judge.{operationIn, allowed}
 use Rattle.protection.proofs.Model.{gates-open, gates-elim}
+use Rattle.protection.proofs.Spare.{operation-used, fits-name}
 
 -- ---- commands as the judge takes them
 abbrev pub ConditionsBelow : ℕ → List Condition → Type 0
@@ -50,24 +50,39 @@ pub record Has (S : System) (C : Command) (c : Operation) : Type 0 where
   pub found : getElem? (S .commands) place ≡ some C
   pub is : operationIn C ≡ c
 
-pub has-below : (S : System) → Singles S → (C : Command) (c : Operation) → Has S C c → OperationBelow (C .parameters) (S .rights) c
-has-below S singles C c H = subst (OperationBelow (C .parameters) (S .rights)) (H .is) (singles (H .place) C (H .found) .operation-fits)
-
 -- ---- what a call needs to be carried out
--- its spare parameters exist and its conditions hold
+-- its conditions hold
 abbrev pub ready : Command → State → Actuals → Bool
-ready C m a = all (spareExists C m a) (C .parameters) 0 && holdAll m a (C .conditions)
+ready C m a = holdAll m a (C .conditions)
 
 pub record Carried (nameable : ℕ → Bool) (C : Command) (m : State) (a : Actuals) : Type 0 where
-  pub fits : T (all (actualFits nameable (C .parameters) a) parameters 0)
+  pub fits : T (all (actualFits nameable C a) parameters 0)
   pub able : T (ready C m a)
   pub can : T (canDo m a (operationIn C))
 
--- bounded names: a parameter's name is below 32
-pub carried-small : (g : ℕ) (C : Command) → Single g C → (m : State) (a : Actuals) → Carried bounded C m a → (b : ℕ) → b < C .parameters → a b < names
-carried-small g C F m a K b l =
-    let t : T (actualFits bounded (C .parameters) a b) = all-one (actualFits bounded (C .parameters) a) parameters 0 (K .fits) b (omega arith) (omega (arith, F .few)) in
-    ltb→lt (a b) names (rw (lt-ltb b (C .parameters) l) at t)
+-- ---- the parameters that a command names are its own, and none of them is spare
+pub conditions-below : (k b : ℕ) (cs : List Condition) → ConditionsBelow k cs → T (inConditions b cs) → b < k
+conditions-below k b [] l t = absurd t
+conditions-below k b (c ∷ cs) l t =
+    ⊎-elim (λ u. ⊎-elim (λ s. rw (eqb→eq b (c .subject) s) (l .0)) (λ o. rw (eqb→eq b (c .object) o) (l .1)) (or-cases (eqb b (c .subject)) (eqb b (c .object)) u))
+    (conditions-below k b cs (l .2)) (or-cases (eqb b (c .subject) || eqb b (c .object)) (inConditions b cs) t)
+
+pub operation-below : (k g b : ℕ) (c : Operation) → OperationBelow k g c → T (inOperation b c) → b < k
+operation-below k g b (enter q s o) l t = ⊎-elim (λ u. rw (eqb→eq b s u) (l .1)) (λ u. rw (eqb→eq b o u) (l .2)) (or-cases (eqb b s) (eqb b o) t)
+operation-below k g b (delete q s o) l t = ⊎-elim (λ u. rw (eqb→eq b s u) (l .1)) (λ u. rw (eqb→eq b o u) (l .2)) (or-cases (eqb b s) (eqb b o) t)
+operation-below k g b (createSubject s) l t = rw (eqb→eq b s t) l
+operation-below k g b (createObject o) l t = rw (eqb→eq b o t) l
+operation-below k g b (destroySubject s) l t = rw (eqb→eq b s t) l
+operation-below k g b (destroyObject o) l t = rw (eqb→eq b o t) l
+
+pub one-named : (g : ℕ) (C : Command) → Single g C → (b : ℕ) → T (inOperation b (operationIn C)) → T (inOperations b (C .operations))
+one-named g C F b t = rw (F .one-operation) (or-left (inOperation b (operationIn C)) false t)
+
+-- bounded names: a parameter of the operation has a name below 32
+pub carried-small : (g : ℕ) (C : Command) → Single g C → (m : State) (a : Actuals) → Carried bounded C m a → (b : ℕ) → T (inOperation b (operationIn C)) → a b < names
+carried-small g C F m a K b op =
+    ltb→lt (a b) names
+    (fits-name bounded C a (K .fits) (F .few) b (operation-below (C .parameters) g b (operationIn C) (F .operation-fits) op) (operation-used C b (one-named g C F b op)))
 
 -- ---- what it comes to
 abbrev pub outcome : Command → State → Actuals → Outcome
@@ -89,11 +104,11 @@ module _ (S : System) (singles : Singles S) (nameable : ℕ → Bool) (m : State
       go none e = no-run 11
       go (some C) e =
           let F = singles (x .command) C e in
-          gates-elim P (all (actualFits nameable (C .parameters) a) parameters 0) (all (spareExists C m a) (C .parameters) 0) (holdAll m a (C .conditions)) (canDoAll m a (C .operations))
+          gates-elim P (all (actualFits nameable C a) parameters 0) (holdAll m a (C .conditions)) (canDoAll m a (C .operations))
           (done (effectAll m a (C .operations)) (entersAnyNew m a (C .operations))) no-run
-          (λ fit spare hold can. subst P (sym (alone C F)) (run C e (record {
+          (λ fit hold can. subst P (sym (alone C F)) (run C e (record {
             fits = fit;
-            able = and-intro (all (spareExists C m a) (C .parameters) 0) (holdAll m a (C .conditions)) spare hold;
+            able = hold;
             can = and-left (canDo m a (operationIn C)) true (rw (F .one-operation) at can);
           })))
 
@@ -102,10 +117,8 @@ module _ (S : System) (singles : Singles S) (nameable : ℕ → Bool) (m : State
     call-done K =
         let F = singles (x .command) C found in
         ap (λ (w : Option Command). executeCommand nameable m w a) found
-        ∙ gates-open (all (actualFits nameable (C .parameters) a) parameters 0) (all (spareExists C m a) (C .parameters) 0) (holdAll m a (C .conditions)) (canDoAll m a (C .operations))
-        (done (effectAll m a (C .operations)) (entersAnyNew m a (C .operations))) (K .fits)
-        (and-left (all (spareExists C m a) (C .parameters) 0) (holdAll m a (C .conditions)) (K .able))
-        (and-right (all (spareExists C m a) (C .parameters) 0) (holdAll m a (C .conditions)) (K .able))
+        ∙ gates-open (all (actualFits nameable C a) parameters 0) (holdAll m a (C .conditions)) (canDoAll m a (C .operations))
+        (done (effectAll m a (C .operations)) (entersAnyNew m a (C .operations))) (K .fits) (K .able)
         (rw (F .one-operation) (and-intro (canDo m a (operationIn C)) true (K .can) tt))
         ∙ alone C F
 

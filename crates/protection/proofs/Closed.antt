@@ -4,19 +4,17 @@ use mathlib.Core.Path.{_≡_, refl, sym, ap, subst}
 use mathlib.Core.Bool.{Bool, true, false, not, _&&_, _||_}
 use mathlib.Core.List.{List, [], _∷_}
 use mathlib.Core.Logic.{_⊎_, inl, inr, ⊎-elim}
-use Prim.Native.Nat.{ℕ, _<_}
-use native.Mathlib.Nat.{zero-add}
+use Prim.Native.Nat.{ℕ}
 use lib.Dec.{T, eqb, eqb→eq, eqb-refl, T-not, not-T}
-use Rattle.cases.specs.Cases.{pick, all}
-use Rattle.cases.proofs.Bools.{and-left, and-right, and-intro, both, or-cases, or-right, or-map, is-false}
-use Rattle.cases.proofs.Loops.{all-map}
+use Rattle.cases.specs.Cases.{pick}
+use Rattle.cases.proofs.Bools.{and-left, and-right, and-intro, both, or-cases, or-right, is-false}
 use Rattle.protection.specs.State.{Kind, absent, object, subject, isObject, isSubject, State, objectIn, subjectIn}
-use Rattle.protection.specs.Command.{Condition, Operation, enter, delete, createSubject, createObject, destroySubject, destroyObject, Command, System, Call, Actuals, actuals, named}
-use Rattle.protection.specs.Execution.{unbounded, holds, holdAll, spareExists, canDo, sameCell, put, takeOut, renew, effect, entersNew, Outcome, done, execute}
+use Rattle.protection.specs.Command.{Condition, Operation, enter, delete, createSubject, createObject, destroySubject, destroyObject, Command, System, Call, Actuals, actuals}
+use Rattle.protection.specs.Execution.{unbounded, holds, holdAll, canDo, sameCell, put, takeOut, renew, effect, entersNew, Outcome, done, execute}
 use Rattle.protection.specs.Leak.{after, isLeak, leaks}
 use Rattle.protection.specs.Judge.{operationIn}
 use Rattle.protection.specs.Paper.{subject-is-object}
-use Rattle.protection.proofs.Calls.{ConditionsBelow, Single, Singles, Has, ready, call-cases}
+use Rattle.protection.proofs.Calls.{Singles, Has, ready, call-cases}
 
 -- ---- a map of names that carries what holds in m over to M
 pub record Maps (m M : State) (f : ℕ → ℕ) : Type 0 where
@@ -28,27 +26,19 @@ pub record Maps (m M : State) (f : ℕ → ℕ) : Type 0 where
 pub apart : (m : State) (n : ℕ) → T (not (objectIn m n)) → (x : ℕ) → T (objectIn m x) → eqb x n ≡ false
 apart m n gone x t = is-false (eqb x n) (λ e. T-not (objectIn m n) gone (subst (λ (z : ℕ). T (objectIn m z)) (eqb→eq x n e) t))
 
--- b is the image of a, as far as a command with k parameters sees it
-module _ (m M : State) (f : ℕ → ℕ) (h : Maps m M f) (a b : Actuals) (k : ℕ) (e : (i : ℕ) → i < k → b i ≡ f (a i)) where
-  holds-to : (c : Condition) → c .subject < k → c .object < k → T (holds m a c) → T (holds M b c)
-  holds-to c ls lo t = rw (e (c .subject) ls, e (c .object) lo) (search (both, h .subject-to, h .object-to, h .cell-to))
+-- b is the image of a, as far as the conditions see it
+module _ (m M : State) (f : ℕ → ℕ) (h : Maps m M f) (a b : Actuals) where
+  holds-to : (c : Condition) → b (c .subject) ≡ f (a (c .subject)) → b (c .object) ≡ f (a (c .object)) → T (holds m a c) → T (holds M b c)
+  holds-to c es eo t = rw (es, eo) (search (both, h .subject-to, h .object-to, h .cell-to))
 
-  hold-all-to : (cs : List Condition) → ConditionsBelow k cs → T (holdAll m a cs) → T (holdAll M b cs)
-  hold-all-to [] l t = tt
-  hold-all-to (c ∷ cs) l t =
+  hold-all-to : (cs : List Condition) → ((i : ℕ) → b i ≡ f (a i)) → T (holdAll m a cs) → T (holdAll M b cs)
+  hold-all-to [] e t = tt
+  hold-all-to (c ∷ cs) e t =
       and-intro (holds M b c) (holdAll M b cs)
-      (holds-to c (l .0) (l .1) (and-left (holds m a c) (holdAll m a cs) t)) (hold-all-to cs (l .2) (and-right (holds m a c) (holdAll m a cs) t))
+      (holds-to c (e (c .subject)) (e (c .object)) (and-left (holds m a c) (holdAll m a cs) t)) (hold-all-to cs e (and-right (holds m a c) (holdAll m a cs) t))
 
-  spare-to : (C : Command) → T (all (spareExists C m a) k 0) → T (all (spareExists C M b) k 0)
-  spare-to C = all-map (spareExists C m a) (spareExists C M b) k 0
-      (λ i _ l. or-map (named C i) (objectIn m (a i)) (objectIn M (b i)) (λ t. rw (e i (rw zero-add at l)) (h .object-to (a i) t)))
-
-pub ready-to : (g : ℕ) (C : Command) → Single g C → (m M : State) (f : ℕ → ℕ) → Maps m M f → (a b : Actuals) → ((i : ℕ) → i < C .parameters → b i ≡ f (a i))
-    → T (ready C m a) → T (ready C M b)
-ready-to g C F m M f h a b e t =
-    and-intro (all (spareExists C M b) (C .parameters) 0) (holdAll M b (C .conditions))
-    (spare-to m M f h a b (C .parameters) e C (and-left (all (spareExists C m a) (C .parameters) 0) (holdAll m a (C .conditions)) t))
-    (hold-all-to m M f h a b (C .parameters) e (C .conditions) (F .conditions-fit) (and-right (all (spareExists C m a) (C .parameters) 0) (holdAll m a (C .conditions)) t))
+pub ready-to : (C : Command) (m M : State) (f : ℕ → ℕ) → Maps m M f → (a : Actuals) → T (ready C m a) → T (ready C M (λ b. f (a b)))
+ready-to C m M f h a t = hold-all-to m M f h a (λ b. f (a b)) (C .conditions) (λ i. refl) t
 
 pub maps-self : (m : State) → Maps m m (λ x. x)
 maps-self m = record { subject-to = λ x t. t; object-to = λ x t. t; cell-to = λ x y q _ _ t. t }
@@ -98,7 +88,7 @@ module _ (S : System) (singles : Singles S) (r : ℕ) (m₀ M : State) (fresh : 
   start = record { maps = K .grows; orig = λ x _ _. refl; kept = λ x y _ _ t. inl t }
 
   image : (m : State) (f : ℕ → ℕ) → Maps m M f → (C : Command) (c : Operation) → Has S C c → (a : Actuals) → T (ready C m a) → T (ready C M (λ b. f (a b)))
-  image m f h C c H a t = ready-to (S .rights) C (singles (H .place) C (H .found)) m M f h a (λ b. f (a b)) (λ i _. refl) t
+  image m f h C c H a t = ready-to C m M f h a t
 
   module _ (m : State) (f : ℕ → ℕ) (σ : Sim m f) where
     -- ---- enter
@@ -252,7 +242,7 @@ module _ (S : System) (singles : Singles S) (r : ℕ) (m₀ M : State) (fresh : 
           o = o;
           a = λ b. f (a b);
           has = H;
-          able = ready-to (S .rights) C (singles (H .place) C (H .found)) m (takeOut M r (f (a s)) (f (a o))) f maps' a (λ b. f (a b)) (λ i _. refl) able;
+          able = ready-to C m (takeOut M r (f (a s)) (f (a o))) f maps' a able;
           can = search (both, σ .maps .subject-to, σ .maps .object-to);
           at-s = refl;
           at-o = refl;

@@ -4,21 +4,18 @@ use mathlib.Core.Bool.{Bool, not}
 use mathlib.Core.Logic.{_⊎_, inl, inr, ⊎-elim}
 use mathlib.Core.Option.{some}
 use Prim.Native.Nat.{ℕ, _≤_, _<_}
-use native.Mathlib.Omega.{arith}
-use borrow.Author.Tests.{lt-ltb}
 use lib.Dec.{T, T-not}
 use lib.ListN.{getElem?}
-use Rattle.cases.proofs.Bools.{or-cases}
-use Rattle.cases.proofs.Loops.{all-one}
-use Rattle.protection.specs.Limits.{parameters}
-use Rattle.protection.specs.State.{State, objectIn}
+use Rattle.protection.specs.Limits.{parameters, unused}
+use Rattle.protection.specs.State.{State}
 use Rattle.protection.specs.Size.{stepBound}
-use Rattle.protection.specs.Command.{Command, System, Call, actuals, named}
-use Rattle.protection.specs.Execution.{actualFits, spareExists, Outcome, refused, done, execute}
+use Rattle.protection.specs.Command.{Command, System, Call, actuals, spare}
+use Rattle.protection.specs.Execution.{Outcome, refused, done, execute}
 use Rattle.protection.specs.Leak.{after}
 use Rattle.protection.specs.Paper.{Configuration, configuration, Same, Executes}
 use Rattle.protection.specs.Judge.{opened, round, rounds, conclude, allRounds, judge, Settled}
 use Rattle.protection.specs.Agreement.{Admitted, Agrees}
+use Rattle.protection.proofs.Spare.{fits-name, fits-rest}
 
 module _ (S : System) (r : ℕ) (m : State) (K : Settled S r m) where
   -- where no enter of r ended the rounds, another round does nothing
@@ -30,22 +27,18 @@ module _ (S : System) (r : ℕ) (m : State) (K : Settled S r m) where
   unfolding judge
   any-fuel fuel l = ap (conclude S r m) (K .enough fuel l)
 
-module _ (nameable : ℕ → Bool) (S : System) (m : State) (x : Call) (C : Command) (A : Admitted nameable S m x C) where
+module _ (nameable : ℕ → Bool) (S : System) (x : Call) (C : Command) (A : Admitted nameable S x C) where
   -- a call that is admitted is one of a command that is there
   pub admitted-there : getElem? (S .commands) (x .command) ≡ some C
   admitted-there = A .found
 
-  -- each parameter gets a name
-  pub admitted-name : C .parameters ≤ parameters → (b : ℕ) → b < C .parameters → T (nameable (actuals x b))
-  admitted-name few b l =
-      let t : T (actualFits nameable (C .parameters) (actuals x) b) = all-one (actualFits nameable (C .parameters) (actuals x)) parameters 0 (A .fit) b (omega arith) (omega arith) in
-      rw (lt-ltb b (C .parameters) l) at t
+  -- each parameter that is not spare gets a name
+  pub admitted-name : C .parameters ≤ parameters → (b : ℕ) → b < C .parameters → T (not (spare C b)) → T (nameable (actuals x b))
+  admitted-name = fits-name nameable C (actuals x) (A .fit)
 
-  -- and one that nothing names an existing one
-  pub admitted-spare : (b : ℕ) → b < C .parameters → T (not (named C b)) → T (objectIn m (actuals x b))
-  admitted-spare b l unnamed =
-      let t : T (spareExists C m (actuals x) b) = all-one (spareExists C m (actuals x)) (C .parameters) 0 (A .spare) b (omega arith) (omega arith) in
-      ⊎-elim (λ n. absurd (T-not (named C b) unnamed n)) (λ e. e) (or-cases (named C b) (objectIn m (actuals x b)) t)
+  -- and each position from k on holds 255
+  pub admitted-rest : (b : ℕ) → C .parameters ≤ b → b < parameters → actuals x b ≡ unused
+  admitted-rest = fits-rest nameable C (actuals x) (A .fit)
 
 module _ (nameable : ℕ → Bool) (S : System) (m : State) (x : Call) (A : Agrees nameable S m x) where
   -- what the machine leaves of the call
@@ -57,7 +50,7 @@ module _ (nameable : ℕ → Bool) (S : System) (m : State) (x : Call) (A : Agre
 
   -- document 01 admits the call, and the relation executes the command to E
   abbrev ExecutedTo : Configuration → Type 0
-  ExecutedTo E = (C : Command) × Admitted nameable S m x C × Executes C (actuals x) (configuration m) E
+  ExecutedTo E = (C : Command) × Admitted nameable S x C × Executes C (actuals x) (configuration m) E
 
   -- a call is refused, or the relation executes it to what the machine leaves
   pub refused-or-executed : Refused ⊎ ExecutedTo (configuration left)

@@ -2,6 +2,7 @@ pub mod Names
 mod Readings
 pub mod Model
 pub mod Widening
+pub mod Spare
 pub mod Calls
 pub mod Closed
 pub mod First

@@ -13,7 +13,7 @@ use Rattle.cases.proofs.Bools.{and-left, and-right, and-intro, both, is-true, i
 use Rattle.protection.specs.Limits.{parameters}
 use Rattle.protection.specs.State.{Kind, absent, object, subject, isObject, isSubject, State, objectIn, subjectIn}
 use Rattle.protection.specs.Command.{Condition, Operation, enter, delete, createSubject, createObject, destroySubject, destroyObject, Command, System, Call, Actuals, actuals}
-use Rattle.protection.specs.Execution.{holdAll, spareExists, actualFits, canDo, sameCell, renew, effect, canDoAll, effectAll, entersAnyNew, Outcome, refused, done, gate, executeCommand, execute}
+use Rattle.protection.specs.Execution.{holdAll, actualFits, canDo, sameCell, renew, effect, canDoAll, effectAll, entersAnyNew, Outcome, refused, done, gate, executeCommand, execute}
 use Rattle.protection.specs.Paper.{Configuration, subject-is-object, configuration, Equal, Same, Yields, YieldsAll, SatisfiedAll, Executes}
 use Rattle.protection.specs.Agreement.{Admitted, Agrees}
 
@@ -330,20 +330,17 @@ satisfied-hold m a (c ∷ cs) h =
 not-both : (m : State) (new : ℕ → Bool) (n : ℕ) → done m new ≡ refused n → ⊥
 not-both m new n e = let z : _≡_ {A = ℕ} 0 1 = cc in omega arith
 
-pub gates-open : (b c d e : Bool) (o : Outcome) → T b → T c → T d → T e → gate b 12 (gate c 13 (gate d 14 (gate e 15 o))) ≡ o
-gates-open true true true true o p q s t = refl
-gates-open true true true false o p q s t = absurd t
-gates-open true true false e o p q s t = absurd s
-gates-open true false d e o p q s t = absurd q
-gates-open false c d e o p q s t = absurd p
+pub gates-open : (b c d : Bool) (o : Outcome) → T b → T c → T d → gate b 12 (gate c 14 (gate d 15 o)) ≡ o
+gates-open true true true o p q s = refl
+gates-open true true false o p q s = absurd s
+gates-open true false d o p q s = absurd q
+gates-open false c d o p q s = absurd p
 
-pub gates-elim : (P : Outcome → Type 0) (b c d e : Bool) (o : Outcome) → ((n : ℕ) → P (refused n)) → (T b → T c → T d → T e → P o)
-    → P (gate b 12 (gate c 13 (gate d 14 (gate e 15 o))))
-gates-elim P false c d e o z h = z 12
-gates-elim P true false d e o z h = z 13
-gates-elim P true true false e o z h = z 14
-gates-elim P true true true false o z h = z 15
-gates-elim P true true true true o z h = h tt tt tt tt
+pub gates-elim : (P : Outcome → Type 0) (b c d : Bool) (o : Outcome) → ((n : ℕ) → P (refused n)) → (T b → T c → T d → P o) → P (gate b 12 (gate c 14 (gate d 15 o)))
+gates-elim P false c d o z h = z 12
+gates-elim P true false d o z h = z 14
+gates-elim P true true false o z h = z 15
+gates-elim P true true true o z h = h tt tt tt
 
 module _ (nameable : ℕ → Bool) (S : System) (m : State) (x : Call) where
   abbrev a : Actuals
@@ -353,33 +350,33 @@ module _ (nameable : ℕ → Bool) (S : System) (m : State) (x : Call) where
   execution C e = ap (λ (w : Option Command). executeCommand nameable m w a) e
 
   done-executes : (m' : State) (new : ℕ → Bool) → execute nameable S m x ≡ done m' new
-      → (C : Command) × Admitted nameable S m x C × Executes C a (configuration m) (configuration m')
+      → (C : Command) × Admitted nameable S x C × Executes C a (configuration m) (configuration m')
   done-executes m' new = go (getElem? (S .commands) (x .command)) refl
     where
       go : (w : Option Command) → getElem? (S .commands) (x .command) ≡ w → executeCommand nameable m w a ≡ done m' new
-          → (C : Command) × Admitted nameable S m x C × Executes C a (configuration m) (configuration m')
+          → (C : Command) × Admitted nameable S x C × Executes C a (configuration m) (configuration m')
       go none e = λ d. absurd (not-both m' new 11 (sym d))
       go (some C) e =
-          gates-elim (λ o. o ≡ done m' new → (C : Command) × Admitted nameable S m x C × Executes C a (configuration m) (configuration m'))
-          (all (actualFits nameable (C .parameters) a) parameters 0) (all (spareExists C m a) (C .parameters) 0) (holdAll m a (C .conditions)) (canDoAll m a (C .operations))
+          gates-elim (λ o. o ≡ done m' new → (C : Command) × Admitted nameable S x C × Executes C a (configuration m) (configuration m'))
+          (all (actualFits nameable C a) parameters 0) (holdAll m a (C .conditions)) (canDoAll m a (C .operations))
           (done (effectAll m a (C .operations)) (entersAnyNew m a (C .operations)))
           (λ n d. absurd (not-both m' new n (sym d)))
-          (λ fit spare hold can d.
+          (λ fit hold can d.
           let z : effectAll m a (C .operations) ≡ m' = cc in (
             C,
-            record { found = e; fit = fit; spare = spare },
+            record { found = e; fit = fit },
             record { conditions = hold-satisfied m a (C .conditions) hold; operations = subst (λ (k : State). YieldsAll (C .operations) a (configuration m) (configuration k)) z (done-yields-all (C .operations) m a can) },
           ))
 
-  executes-done : (C : Command) (E : Configuration) → Admitted nameable S m x C → Executes C a (configuration m) E
+  executes-done : (C : Command) (E : Configuration) → Admitted nameable S x C → Executes C a (configuration m) E
       → (m' : State) × (new : ℕ → Bool) × (execute nameable S m x ≡ done m' new) × Same (configuration m') E
   executes-done C E A y =
       let d = yields-done-all (C .operations) m a (configuration m) (same-self (configuration m)) E (y .operations) in (
         effectAll m a (C .operations),
         entersAnyNew m a (C .operations),
         execution C (A .found)
-            ∙ gates-open (all (actualFits nameable (C .parameters) a) parameters 0) (all (spareExists C m a) (C .parameters) 0) (holdAll m a (C .conditions)) (canDoAll m a (C .operations))
-            (done (effectAll m a (C .operations)) (entersAnyNew m a (C .operations))) (A .fit) (A .spare) (satisfied-hold m a (C .conditions) (y .conditions)) (d .0),
+            ∙ gates-open (all (actualFits nameable C a) parameters 0) (holdAll m a (C .conditions)) (canDoAll m a (C .operations))
+            (done (effectAll m a (C .operations)) (entersAnyNew m a (C .operations))) (A .fit) (satisfied-hold m a (C .conditions) (y .conditions)) (d .0),
         d .1,
       )
 

@@ -10,9 +10,9 @@ use Rattle.protection.specs.Limits.{unused}
 use Rattle.protection.specs.State.{Kind, absent, object, subject, State}
 use Rattle.protection.specs.Command.{Condition, Operation, enter, delete, createSubject, createObject, destroySubject, destroyObject, Command, System, Call}
 use Rattle.protection.specs.Execution.{bounded, unbounded, Outcome, refused, execute}
-use Rattle.protection.specs.Leak.{leaks, anyRefused, LeaksLast}
+use Rattle.protection.specs.Leak.{isRefused, leaks, anyRefused, LeaksLast}
 use Rattle.protection.specs.Size.{count}
-use Rattle.protection.specs.Judge.{lowestAbsent, rounds, Verdict, judge}
+use Rattle.protection.specs.Judge.{lowestAbsent, placesOf, rounds, Verdict, judge}
 
 -- ---- small states, systems and calls
 -- a right in a cell
@@ -129,6 +129,33 @@ not-sooner : LeaksLast unbounded S 0 without (call 0 (0 ∷ []) ∷ call 0 (0 �
 unfolding leaks all
 not-sooner h = h .sooner tt
 
+-- ---- spare blanks (document 02, C-11)
+-- rule 0 (a,b,c): enter 0 into (b,b); nothing names a and c
+abbrev job : System
+job = system 1 (command 3 [] (enter 0 1 1 ∷ []) ∷ [])
+
+-- "such a blank takes any byte", on the printer's machine any number
+any-byte : isRefused (execute bounded job without (call 0 (117 ∷ 0 ∷ 255 ∷ []))) ≡ false
+unfolding all
+any-byte = refl
+
+any-number : isRefused (execute unbounded job without (call 0 (100000 ∷ 0 ∷ 255 ∷ []))) ≡ false
+unfolding all
+any-number = refl
+
+-- "12 looks at named blanks and at positions from k on"
+named-blank : execute bounded job without (call 0 (117 ∷ 32 ∷ 255 ∷ [])) ≡ refused 12
+unfolding all
+named-blank = refl
+
+behind-the-blanks : execute bounded job without (call 0 (117 ∷ 0 ∷ 117 ∷ 117 ∷ [])) ≡ refused 12
+unfolding all
+behind-the-blanks = refl
+
+-- a rule with spare blanks has as many places as without them
+spare-places : placesOf (command 3 [] (enter 0 1 1 ∷ [])) 0 ≡ 32
+spare-places = refl
+
 -- ---- the judge
 abbrev safe : List Call → Verdict
 safe xs = record { unsafe = false; steps = xs }
@@ -170,6 +197,11 @@ creates
     ≡ safe (call 0 (0 ∷ []) ∷ call 2 (3 ∷ []) ∷ call 4 (0 ∷ []) ∷ call 4 (1 ∷ []) ∷ [])
 unfolding judge rounds lowestAbsent iterate all count
 creates = refl
+
+-- "The judge always writes 0 there" (C-11)
+spare-is-0 : judge (system 1 (command 3 [] (enter 0 1 1 ∷ []) ∷ [])) 0 (state (absent ∷ subject ∷ []) []) ≡ unsafe (call 0 (0 ∷ 1 ∷ 0 ∷ []) ∷ [])
+unfolding judge rounds lowestAbsent iterate all count
+spare-is-0 = refl
 
 -- "for each start cell (s, o) holding r, row by row: the first allowed delete of r from it, and the first enter of r into it allowed once r is gone; the first
 -- cell with both adds these two steps": from (0,0) right 0 is deleted and not entered again

@@ -1,7 +1,7 @@
 -- A run on the names of a file and on names without number: what is carried out on the first is carried out on the second, and leaks where it does.
 -- Assumes nothing.
 use mathlib.Core.Path.{_≡_, refl, sym, ap, subst}
-use mathlib.Core.Bool.{Bool, true, false, _||_}
+use mathlib.Core.Bool.{Bool, true, false, not, _||_}
 use mathlib.Core.List.{List, [], _∷_}
 use mathlib.Core.Logic.{⊎-elim}
 use mathlib.Core.Option.{Option, none, some}
@@ -15,8 +15,8 @@ use Rattle.cases.proofs.Bools.{is-true, fails, holds as test-holds, or-cases, o
 use Rattle.cases.proofs.Loops.{all-at, all-intro}
 use Rattle.protection.specs.Limits.{parameters, unused}
 use Rattle.protection.specs.State.{State}
-use Rattle.protection.specs.Command.{Command, System, Call, actuals}
-use Rattle.protection.specs.Execution.{bounded, unbounded, holdAll, spareExists, actualFits, canDoAll, effectAll, entersAnyNew, Outcome, refused, done, gate, executeCommand, execute}
+use Rattle.protection.specs.Command.{Command, System, Call, actuals, spare}
+use Rattle.protection.specs.Execution.{bounded, unbounded, holdAll, actualFits, canDoAll, effectAll, entersAnyNew, Outcome, refused, done, gate, executeCommand, execute}
 use Rattle.protection.specs.Leak.{after, isRefused, isLeak, leaks, anyRefused, init, LeaksLast}
 
 -- P and Q say which numbers a call may give as names
@@ -28,29 +28,31 @@ abbrev CarriesAll : (ℕ → Bool) → (ℕ → Bool) → System → List Call �
 CarriesAll P Q S [] = Unit {0}
 CarriesAll P Q S (x ∷ xs) = Carries P Q S x × CarriesAll P Q S xs
 
--- a call whose actuals fit under P and under Q
+-- a call whose actuals, but for spare parameters, fit under P and under Q
 carries : (P Q : ℕ → Bool) (S : System) (x : Call)
-    → ((C : Command) → getElem? (S .commands) (x .command) ≡ some C → (b : ℕ) → b < C .parameters → T (P (actuals x b)) → T (Q (actuals x b))) → Carries P Q S x
+    → ((C : Command) → getElem? (S .commands) (x .command) ≡ some C → (b : ℕ) → b < C .parameters → T (not (spare C b)) → T (P (actuals x b)) → T (Q (actuals x b))) → Carries P Q S x
 carries P Q S x h m m' new e = go (getElem? (S .commands) (x .command)) refl e
   where
     go : (w : Option Command) → getElem? (S .commands) (x .command) ≡ w → executeCommand P m w (actuals x) ≡ done m' new → executeCommand Q m w (actuals x) ≡ done m' new
     go none d e = e
-    go (some C) d e = gates (all (actualFits P (C .parameters) (actuals x)) parameters 0) refl e
+    go (some C) d e = gates (all (actualFits P C (actuals x)) parameters 0) refl e
       where
-        fits : (b : ℕ) → actualFits P (C .parameters) (actuals x) b ≡ true → actualFits Q (C .parameters) (actuals x) b ≡ true
-        fits b = by (ltb b (C .parameters)) refl
+        fits : (b : ℕ) → actualFits P C (actuals x) b ≡ true → actualFits Q C (actuals x) b ≡ true
+        fits b = by (spare C b) (ltb b (C .parameters)) (λ t. t) refl
           where
-            by : (c : Bool) → ltb b (C .parameters) ≡ c → pick c (P (actuals x b)) (eqb (actuals x b) unused) ≡ true → pick c (Q (actuals x b)) (eqb (actuals x b) unused) ≡ true
-            by true l e = is-true (Q (actuals x b)) (h C d b (ltb-true b (C .parameters) l) (test-holds (P (actuals x b)) e))
-            by false l e = e
+            by : (s c : Bool) → (T (not s) → T (not (spare C b))) → ltb b (C .parameters) ≡ c
+                → s || pick c (P (actuals x b)) (eqb (actuals x b) unused) ≡ true → s || pick c (Q (actuals x b)) (eqb (actuals x b) unused) ≡ true
+            by true c u l e = refl
+            by false true u l e = is-true (Q (actuals x b)) (h C d b (ltb-true b (C .parameters) l) (u tt) (test-holds (P (actuals x b)) e))
+            by false false u l e = e
 
-        gates : (c : Bool) → all (actualFits P (C .parameters) (actuals x)) parameters 0 ≡ c
-            → gate c 12 (gate (all (spareExists C m (actuals x)) (C .parameters) 0) 13 (gate (holdAll m (actuals x) (C .conditions)) 14 (gate (canDoAll m (actuals x) (C .operations)) 15
-            (done (effectAll m (actuals x) (C .operations)) (entersAnyNew m (actuals x) (C .operations)))))) ≡ done m' new
+        gates : (c : Bool) → all (actualFits P C (actuals x)) parameters 0 ≡ c
+            → gate c 12 (gate (holdAll m (actuals x) (C .conditions)) 14 (gate (canDoAll m (actuals x) (C .operations)) 15
+            (done (effectAll m (actuals x) (C .operations)) (entersAnyNew m (actuals x) (C .operations))))) ≡ done m' new
             → executeCommand Q m (some C) (actuals x) ≡ done m' new
         gates true d e =
-            let z : all (actualFits Q (C .parameters) (actuals x)) parameters 0 ≡ true =
-            all-intro (actualFits Q (C .parameters) (actuals x)) parameters 0 (λ b l k. fits b (all-at (actualFits P (C .parameters) (actuals x)) parameters 0 d b l k)) in
+            let z : all (actualFits Q C (actuals x)) parameters 0 ≡ true =
+            all-intro (actualFits Q C (actuals x)) parameters 0 (λ b l k. fits b (all-at (actualFits P C (actuals x)) parameters 0 d b l k)) in
             rw z e
         gates false d e = absurd (let z : _≡_ {A = ℕ} 0 1 = cc in omega arith)
 
@@ -90,19 +92,19 @@ module _ (P Q : ℕ → Bool) (S : System) (r : ℕ) where
       let most = carried-same (init xs) m (init-all xs h) (λ t. L .carried (init-carried xs m t)) in
       record { carried = fails (anyRefused Q S m xs) (whole .0); leak = subst T (sym (whole .1)) (L .leak); sooner = λ t. L .sooner (subst T (most .1) t) }
 
--- the calls give names of a file, 0 to 31, to the parameters of their commands
+-- the calls give names of a file, 0 to 31, to the parameters of their commands that are not spare
 abbrev pub NamesOfFile : System → List Call → Type 0
 NamesOfFile S [] = Unit {0}
-NamesOfFile S (x ∷ xs) = ((C : Command) → getElem? (S .commands) (x .command) ≡ some C → (b : ℕ) → b < C .parameters → T (bounded (actuals x b))) × NamesOfFile S xs
+NamesOfFile S (x ∷ xs) = ((C : Command) → getElem? (S .commands) (x .command) ≡ some C → (b : ℕ) → b < C .parameters → T (not (spare C b)) → T (bounded (actuals x b))) × NamesOfFile S xs
 
 module _ (S : System) (r : ℕ) where
   widen : (xs : List Call) → CarriesAll bounded unbounded S xs
   widen [] = tt
-  widen (x ∷ xs) = (carries bounded unbounded S x (λ C _ b _ _. tt), widen xs)
+  widen (x ∷ xs) = (carries bounded unbounded S x (λ C _ b _ _ _. tt), widen xs)
 
   narrow : (xs : List Call) → NamesOfFile S xs → CarriesAll unbounded bounded S xs
   narrow [] h = tt
-  narrow (x ∷ xs) h = (carries unbounded bounded S x (λ C d b l _. h .0 C d b l), narrow xs (h .1))
+  narrow (x ∷ xs) h = (carries unbounded bounded S x (λ C d b l u _. h .0 C d b l u), narrow xs (h .1))
 
   -- a leak at the last step on the names of a file is one on names without number, and the other way where the run gives names of a file
   pub last-unbounded : (xs : List Call) (m : State) → LeaksLast bounded S r m xs → LeaksLast unbounded S r m xs

@@ -1,9 +1,11 @@
 -- Commands (document 01: rules) and calls of them (rule runs). Parameters are document 01's blanks, operations its steps.
-use mathlib.Core.Bool.{Bool, true, false, _||_}
+use mathlib.Core.Bool.{Bool, true, false, not, _&&_, _||_}
 use mathlib.Core.List.{List, [], _∷_}
+use mathlib.Core.Option.{some}
+use mathlib.Core.Path.{_≡_}
 use Prim.Native.Nat.{ℕ}
-use lib.Dec.{eqb}
-use lib.ListN.{getD}
+use lib.Dec.{T, eqb, ltb}
+use lib.ListN.{getD, getElem?}
 
 -- the right is in the cell of the two parameters
 pub record Condition : Type 0 where
@@ -63,3 +65,12 @@ inOperations b (c ∷ cs) = inOperation b c || inOperations b cs
 
 abbrev pub named : Command → ℕ → Bool
 named C b = inConditions b (C .conditions) || inOperations b (C .operations)
+
+-- a parameter that no condition and no operation names (document 02, C-11: a spare blank)
+abbrev pub spare : Command → ℕ → Bool
+spare C b = ltb b (C .parameters) && not (named C b)
+
+-- two calls of one command of S that differ in actuals of its spare parameters alone
+pub record DifferInSpare (S : System) (x y : Call) : Type 0 where
+  pub same-command : y .command ≡ x .command
+  pub same-actual : (C : Command) → getElem? (S .commands) (x .command) ≡ some C → (b : ℕ) → T (not (spare C b)) → actuals y b ≡ actuals x b

@@ -8,7 +8,7 @@ use lib.ListN.{getElem?}
 use Rattle.cases.specs.Cases.{pick, all}
 use Rattle.protection.specs.Limits.{names, parameters, unused}
 use Rattle.protection.specs.State.{Kind, absent, object, subject, State, objectIn, subjectIn}
-use Rattle.protection.specs.Command.{Condition, Operation, enter, delete, createSubject, createObject, destroySubject, destroyObject, Command, System, Call, Actuals, actuals, named}
+use Rattle.protection.specs.Command.{Condition, Operation, enter, delete, createSubject, createObject, destroySubject, destroyObject, Command, System, Call, Actuals, actuals, spare}
 
 -- which numbers a call may give as names: on the file's matrix those below 32, on the printer's machine all
 abbrev pub bounded : ℕ → Bool
@@ -30,13 +30,9 @@ abbrev pub holdAll : State → Actuals → List Condition → Bool
 holdAll m a [] = true
 holdAll m a (c ∷ cs) = holds m a c && holdAll m a cs
 
--- "A blank that no condition and no step names must get an existing name."
-abbrev pub spareExists : Command → State → Actuals → ℕ → Bool
-spareExists C m a b = named C b || objectIn m (a b)
-
--- "positions from k on hold 255"
-abbrev pub actualFits : (ℕ → Bool) → ℕ → Actuals → ℕ → Bool
-actualFits nameable k a b = pick (ltb b k) (nameable (a b)) (eqb (a b) unused)
+-- a blank that no condition and no step names "takes any byte" (document 02, C-11); the others have names, and "positions from k on hold 255"
+abbrev pub actualFits : (ℕ → Bool) → Command → Actuals → ℕ → Bool
+actualFits nameable C a b = spare C b || pick (ltb b (C .parameters)) (nameable (a b)) (eqb (a b) unused)
 
 -- ---- operations
 -- "enter, delete: the first name is a subject and the second exists"; create: "the name must be absent";
@@ -102,16 +98,15 @@ abbrev pub gate : Bool → ℕ → Outcome → Outcome
 gate true n o = o
 gate false n o = refused n
 
--- 11 no such rule; 12 an actual above 31 in a used position or not 255 in an unused one; 13 an unnamed blank with an absent name;
--- 14 a condition not held; 15 a step that cannot be done
+-- 11 no such rule; 12 an actual above 31 in a named blank or not 255 from k on; 14 a condition not held; 15 a step that cannot be done. 13 is given by nobody
+-- since a spare blank takes any byte.
 abbrev pub executeCommand : (ℕ → Bool) → State → Option Command → Actuals → Outcome
 executeCommand nameable m none a = refused 11
 executeCommand nameable m (some C) a =
-    gate (all (actualFits nameable (C .parameters) a) parameters 0) 12
-    (gate (all (spareExists C m a) (C .parameters) 0) 13
+    gate (all (actualFits nameable C a) parameters 0) 12
     (gate (holdAll m a (C .conditions)) 14
     (gate (canDoAll m a (C .operations)) 15
-    (done (effectAll m a (C .operations)) (entersAnyNew m a (C .operations))))))
+    (done (effectAll m a (C .operations)) (entersAnyNew m a (C .operations)))))
 
 abbrev pub execute : (ℕ → Bool) → System → State → Call → Outcome
 execute nameable S m x = executeCommand nameable m (getElem? (S .commands) (x .command)) (actuals x)

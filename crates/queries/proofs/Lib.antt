@@ -6,4 +6,3 @@ pub mod Picking
 pub mod Untested
 pub mod Closing
 pub mod OwnConditions
-pub mod PlaceCount

@@ -1,21 +1,22 @@
 -- What follows from demand 3 alone, and from the judge's promise alone, whatever the answer and the buffer: at least a sentence for each field. Assumes nothing.
 use Prim.Native.Nat.{ℕ, zero, suc, _+_, _*_, _-_, _≤_, _<_}
 use mathlib.Core.Path.{_≡_, refl, sym, ap, _∙_, subst}
-use mathlib.Core.Bool.{Bool, true, false, not}
+use mathlib.Core.Bool.{Bool, true, false, not, _||_}
 use mathlib.Core.List.{List, [], _∷_, _++_}
 use mathlib.Core.Logic.{_↔_, _⊎_, inl, inr}
 use native.Mathlib.Omega.{arith}
 use native.Mathlib.Decide.{ℕ-discrete}
 use borrow.Author.Tests.{lt-ltb}
-use lib.Dec.{T}
+use lib.Dec.{T, eqb, ltb}
 use lib.ListN.{length, take, drop, take-append-drop}
 use lib.Seq.{length-take-le}
 use Rattle.cases.specs.Cases.{pick, tabulate}
+use Rattle.cases.proofs.Bools.{or-right}
 use Rattle.cases.proofs.Lists.{length-tabulate}
-use Rattle.protection.specs.Limits.{rights, startNames}
+use Rattle.protection.specs.Limits.{rights, startNames, unused}
 use Rattle.protection.specs.State.{State}
 use Rattle.protection.specs.Size.{namesOf}
-use Rattle.protection.specs.Command.{System, Call, Actuals}
+use Rattle.protection.specs.Command.{Command, System, Call, Actuals, spare}
 use Rattle.protection.specs.Execution.{unbounded, actualFits}
 use Rattle.protection.specs.Leak.{leaks, anyRefused, init, LeaksLast}
 use Rattle.protection.specs.Judge.{round, conclude, allRounds, judge}
@@ -47,8 +48,8 @@ module _ (S : System) (r : ℕ) (m : State) (b : List ℕ) (answer : Judgement) 
   n = stepsWritten answer
 
   -- whatever number a call gives to a parameter, it is a name
-  pub any-number : (k : ℕ) (a : Actuals) (i : ℕ) → i < k → T (actualFits unbounded k a i)
-  any-number k a i l = rw (lt-ltb i k l) (D .every-name (a i))
+  pub any-number : (C : Command) (a : Actuals) (i : ℕ) → i < C .parameters → T (actualFits unbounded C a i)
+  any-number C a i l = or-right (spare C i) (pick (ltb i (C .parameters)) (unbounded (a i)) (eqb (a i) unused)) (rw (lt-ltb i (C .parameters) l) (D .every-name (a i)))
 
   -- whether some run leaks is decided, though runs are of any length and names without number
   pub decided : ((xs : List Call) × T (leaks unbounded S r m xs)) ⊎ ((xs : List Call) → T (leaks unbounded S r m xs) → ⊥)

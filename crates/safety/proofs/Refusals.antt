@@ -26,33 +26,33 @@ use Rattle.policy.specs.Contents.{systemOf, fileState, fileSystem}
 use Rattle.policy.specs.Fits.{PolicyFits}
 use Rattle.policy.specs.declared.Policy.{Policy}
 use Rattle.visits.specs.Engine.{boundOf, commandNumber, Asked}
-use Rattle.safety.specs.Judgement.{singleSteps, callerRefusal, judgeRefusal, fileVerdict, judgementOf, fileJudgement, filled, fileBuffer}
+use Rattle.safety.specs.Judgement.{singleOperations, callerRefusal, judgeRefusal, fileVerdict, judgementOf, fileJudgement, filled, fileBuffer}
 use Rattle.safety.specs.declared.Judgement.the-variants.{Refused}
 
 -- ---- commands of one operation, by their numbers
-abbrev pub oneStep : Policy → ℕ → Bool
-oneStep p i = ltb (getD (p .command) i missing .operations) 2
+abbrev pub oneOperation : Policy → ℕ → Bool
+oneOperation p i = ltb (getD (p .command) i missing .operations) 2
 
-steps-all : (p : Policy) (n j : ℕ) → singleSteps (tabulate (commandNumber p) n j) ≡ all (oneStep p) n j
+single-all : (p : Policy) (n j : ℕ) → singleOperations (tabulate (commandNumber p) n j) ≡ all (oneOperation p) n j
 unfolding all
-steps-all p zero j = refl
-steps-all p (suc n) j =
-    ap₂ _&&_ (ap (λ (k : ℕ). ltb k 2) (length-tabulate (operationOf (getD (p .command) j missing)) (getD (p .command) j missing .operations) 0)) (steps-all p n (suc j))
-    ∙ both (oneStep p j) (all (oneStep p) n (suc j))
+single-all p zero j = refl
+single-all p (suc n) j =
+    ap₂ _&&_ (ap (λ (k : ℕ). ltb k 2) (length-tabulate (operationOf (getD (p .command) j missing)) (getD (p .command) j missing .operations) 0)) (single-all p n (suc j))
+    ∙ both (oneOperation p j) (all (oneOperation p) n (suc j))
   where
     both : (b c : Bool) → b && c ≡ pick b c false
     both true c = refl
     both false c = refl
 
-pub steps-start : (p : Policy) (n : ℕ) → n ≡ p .commands → all (oneStep p) (n - 0) 0 ≡ singleSteps (systemOf p .commands)
-steps-start p n e = rw (sub-zero n, e) (sym (steps-all p (p .commands) 0))
+pub single-start : (p : Policy) (n : ℕ) → n ≡ p .commands → all (oneOperation p) (n - 0) 0 ≡ singleOperations (systemOf p .commands)
+single-start p n e = rw (sub-zero n, e) (sym (single-all p (p .commands) 0))
 
-pub steps-many : (p : Policy) (n i : ℕ) (whole : Bool) (c : Command) → c ≡ getD (p .command) i missing → 2 ≤ c .operations → i < n → all (oneStep p) (n - i) i ≡ whole → false ≡ whole
-steps-many p n i whole c e h l = all-false (oneStep p) n whole i (le-ltb (getD (p .command) i missing .operations) 2 (rw e at h)) l
+pub single-many : (p : Policy) (n i : ℕ) (whole : Bool) (c : Command) → c ≡ getD (p .command) i missing → 2 ≤ c .operations → i < n → all (oneOperation p) (n - i) i ≡ whole → false ≡ whole
+single-many p n i whole c e h l = all-false (oneOperation p) n whole i (le-ltb (getD (p .command) i missing .operations) 2 (rw e at h)) l
 
-pub steps-next : (p : Policy) (n i : ℕ) (whole : Bool) (c : Command) → c ≡ getD (p .command) i missing → c .operations < 2 → i < n → all (oneStep p) (n - i) i ≡ whole
-    → all (oneStep p) (n - (i + 1)) (i + 1) ≡ whole
-steps-next p n i whole c e h l = all-true (oneStep p) n whole i (lt-ltb (getD (p .command) i missing .operations) 2 (rw e at h)) l
+pub single-next : (p : Policy) (n i : ℕ) (whole : Bool) (c : Command) → c ≡ getD (p .command) i missing → c .operations < 2 → i < n → all (oneOperation p) (n - i) i ≡ whole
+    → all (oneOperation p) (n - (i + 1)) (i + 1) ≡ whole
+single-next p n i whole c e h l = all-true (oneOperation p) n whole i (lt-ltb (getD (p .command) i missing .operations) 2 (rw e at h)) l
 
 -- ---- what the code tests, one after the other
 module _ (p : Policy) (r n : ℕ) where
@@ -63,7 +63,7 @@ module _ (p : Policy) (r n : ℕ) where
   unfolding callerRefusal
   caller-21 l = rw (le-leb (p .rights) r l)
 
-  module _ (l : r < p .rights) (b : Bool) (e : b ≡ singleSteps (systemOf p .commands)) where
+  module _ (l : r < p .rights) (b : Bool) (e : b ≡ singleOperations (systemOf p .commands)) where
     pub caller-22 : not b ≡ true → 22 ≡ answer
     unfolding callerRefusal
     caller-22 f = rw (lt-leb (p .rights) r l, ← e, f)
@@ -102,18 +102,18 @@ not-within a b q = go (decLt b a)
 
 pub record Passed (S : System) (m : State) (r n : ℕ) : Type 0 where
   pub below : r < S .rights
-  pub single : singleSteps (S .commands) ≡ true
+  pub single : singleOperations (S .commands) ≡ true
   pub few-names : namesOf m ≤ startNames
   pub room : 5 * stepBound (S .rights) m ≤ n
 
 pub passed : (S : System) (m : State) (r n : ℕ) → callerRefusal S m r n ≡ 0 → Passed S m r n
 unfolding callerRefusal
-passed S m r n e = go (leb (S .rights) r) (singleSteps (S .commands)) (ltb startNames (namesOf m)) (ltb n (5 * stepBound (S .rights) m)) refl refl refl refl e
+passed S m r n e = go (leb (S .rights) r) (singleOperations (S .commands)) (ltb startNames (namesOf m)) (ltb n (5 * stepBound (S .rights) m)) refl refl refl refl e
   where
     nonzero : (k : ℕ) → suc k ≡ 0 → ⊥
     nonzero k q = omega arith
 
-    go : (a b c d : Bool) → leb (S .rights) r ≡ a → singleSteps (S .commands) ≡ b → ltb startNames (namesOf m) ≡ c → ltb n (5 * stepBound (S .rights) m) ≡ d
+    go : (a b c d : Bool) → leb (S .rights) r ≡ a → singleOperations (S .commands) ≡ b → ltb startNames (namesOf m) ≡ c → ltb n (5 * stepBound (S .rights) m) ≡ d
         → _≡_ {A = ℕ} (pick a 21 (pick (not b) 22 (pick c 23 (pick d 24 0)))) 0 → Passed S m r n
     go true b c d ea eb ec ed q = absurd (nonzero 20 q)
     go false false c d ea eb ec ed q = absurd (nonzero 21 q)
@@ -164,8 +164,8 @@ question-asked p r n e F = record {
   below = P .below;
   single = record {
     one-step = λ i l.
-        let whole : all (oneStep p) (p .commands) 0 ≡ true = sym (steps-all p (p .commands) 0) ∙ P .single in
-        let few : getD (p .command) i missing .operations < 2 = ltb→lt (getD (p .command) i missing .operations) 2 (test-holds (oneStep p i) (all-at (oneStep p) (p .commands) 0 whole i (omega arith) (omega arith))) in
+        let whole : all (oneOperation p) (p .commands) 0 ≡ true = sym (single-all p (p .commands) 0) ∙ P .single in
+        let few : getD (p .command) i missing .operations < 2 = ltb→lt (getD (p .command) i missing .operations) 2 (test-holds (oneOperation p i) (all-at (oneOperation p) (p .commands) 0 whole i (omega arith) (omega arith))) in
         omega (arith, F .commands-fit i l .some-operation);
   };
   few-names = P .few-names;

@@ -16,7 +16,7 @@ use Rattle.trace.specs.Traces.{calls}
 use Rattle.safety.specs.declared.Judgement.{Judgement}
 use Rattle.safety.specs.declared.Judgement.the-variants.{Refused, Safe, Unsafe}
 
--- the enum `Judgement`: "The answer is the verdict and the number of steps written."
+-- the enum `Judgement`: "The answer is the verdict and the number of steps written."; a refused call writes none
 abbrev pub isSafe : Judgement → Bool
 isSafe (Refused n) = false
 isSafe (Safe n) = true

@@ -23,16 +23,16 @@ use Rattle.safety.specs.declared.Judgement.the-variants.{Refused, Safe, 
 
 -- ---- "Whoever calls for a verdict"
 -- not 22, "a rule with more than one step"
-abbrev pub singleSteps : List Command → Bool
-singleSteps [] = true
-singleSteps (C ∷ Cs) = ltb (length (C .operations)) 2 && singleSteps Cs
+abbrev pub singleOperations : List Command → Bool
+singleOperations [] = true
+singleOperations (C ∷ Cs) = ltb (length (C .operations)) 2 && singleOperations Cs
 
 -- "21 right not below g. Judge only, in this order: 22 a rule with more than one step; 23 more than 30 names exist; 24 buffer shorter than 5 × .." n is the
 -- buffer's length; 0 is no refusal.
 unfoldable pub callerRefusal : System → State → ℕ → ℕ → ℕ
 callerRefusal S m r n =
     pick (leb (S .rights) r) 21
-    (pick (not (singleSteps (S .commands))) 22
+    (pick (not (singleOperations (S .commands))) 22
     (pick (ltb startNames (namesOf m)) 23
     (pick (ltb n (5 * stepBound (S .rights) m)) 24
     0)))

@@ -36,7 +36,7 @@ fileReplay f t r =
     (Refused 31 0)))
     (Refused (refusal f) 0)
 
--- at the C boundary: 0 no leak, 255 a leak, else the refusal; and the step
+-- at the C boundary: 0 no leak, 255 a leak, else the refusal; and the step, 0 where no step leaks and none is refused
 abbrev pub replayCode : Replay → ℕ
 replayCode NoLeak = 0
 replayCode (Leak i) = 255

@@ -7,25 +7,26 @@ use mathlib.Core.List.{List, [], _∷_}
 use mathlib.Core.Option.{Option, none, some}
 use native.Mathlib.Omega.{arith}
 use native.Mathlib.Decide.{decLt}
-use borrow.Author.Tests.{ne-eqb, ltb-true, lt-ltb}
-use lib.Dec.{T, eqb, ltb}
+use borrow.Author.Tests.{ne-eqb}
+use lib.Dec.{T, eqb, eqb-refl, ltb→lt}
 use lib.ListN.{getD, getElem?}
 use Rattle.cases.specs.Cases.{pick, all, tabulate}
-use Rattle.cases.proofs.Bools.{is-true}
 use Rattle.cases.proofs.Lists.{found-tabulate, none-tabulate}
-use Rattle.cases.proofs.Loops.{all-at}
 use Rattle.protection.specs.Limits.{names, parameters}
 use Rattle.protection.specs.State.{State}
-use Rattle.protection.specs.Command.{Command as ModelCommand, Call, Actuals, actuals, valuesOf}
-use Rattle.protection.specs.Execution.{bounded, holdAll, spareExists, actualFits, canDoAll, effectAll, entersAnyNew, Outcome, refused, done, gate, executeCommand}
+use Rattle.protection.specs.Command.{Command as ModelCommand, Call, Actuals, actuals, valuesOf, inOperation}
+use Rattle.protection.specs.Execution.{bounded, holdAll, actualFits, canDoAll, effectAll, entersAnyNew, Outcome, refused, done, gate, executeCommand}
 use Rattle.protection.specs.Paper.{Configuration, configuration, Same, Executes}
 use Rattle.protection.specs.Agreement.{Admitted, Agrees}
 use Rattle.protection.proofs.Model.{machine-is-model, gates-elim}
+use Rattle.protection.proofs.Spare.{named-used, fits-name}
 use Rattle.protection.specs.Proper.{Proper}
 use Rattle.commands.specs.Contents.{missing, operationBy, operationOf, modelOf, meaning}
 use Rattle.commands.specs.Fits.{Fits}
 use Rattle.commands.specs.declared.Command.{Command}
+use Rattle.commands.specs.declared.Operation.{Operation}
 use Rattle.commands.specs.declared.Operation.the-variants.{Enter, Delete, CreateSubject, CreateObject, DestroySubject, DestroyObject}
+use Rattle.commands.proofs.Names.{operation-names}
 use Rattle.layout.specs.File.{rightsOf}
 use Rattle.policy.specs.Refusals.{refusal}
 use Rattle.policy.specs.Contents.{policyOf, fileState, fileSystem}
@@ -44,36 +45,39 @@ refused-number nameable m none a n e = let z : 11 ≡ n = number 11 n e in omega
     number : (k n : ℕ) → refused k ≡ refused n → k ≡ n
     number k n e = cc
 refused-number nameable m (some C) a n e =
-    go (all (actualFits nameable (C .parameters) a) parameters 0) (all (spareExists C m a) (C .parameters) 0) (holdAll m a (C .conditions)) (canDoAll m a (C .operations)) e
+    go (all (actualFits nameable C a) parameters 0) (holdAll m a (C .conditions)) (canDoAll m a (C .operations)) e
   where
     number : (k n : ℕ) → refused k ≡ refused n → k ≡ n
     number k n e = cc
 
-    go : (b c d f : Bool) → gate b 12 (gate c 13 (gate d 14 (gate f 15 (done (effectAll m a (C .operations)) (entersAnyNew m a (C .operations)))))) ≡ refused n → 11 ≤ n
-    go false c d f e = let z : 12 ≡ n = number 12 n e in omega arith
-    go true false d f e = let z : 13 ≡ n = number 13 n e in omega arith
-    go true true false f e = let z : 14 ≡ n = number 14 n e in omega arith
-    go true true true false e = let z : 15 ≡ n = number 15 n e in omega arith
-    go true true true true e = absurd (let z : _≡_ {A = ℕ} 0 1 = cc in omega arith)
+    go : (b c d : Bool) → gate b 12 (gate c 14 (gate d 15 (done (effectAll m a (C .operations)) (entersAnyNew m a (C .operations))))) ≡ refused n → 11 ≤ n
+    go false c d e = let z : 12 ≡ n = number 12 n e in omega arith
+    go true false d e = let z : 14 ≡ n = number 14 n e in omega arith
+    go true true false e = let z : 15 ≡ n = number 15 n e in omega arith
+    go true true true e = absurd (let z : _≡_ {A = ℕ} 0 1 = cc in omega arith)
 
 -- ---- the operations of an accepted file's commands are sound
-module _ (g : ℕ) (a : List ℕ) (c : Command) (F : Fits g c) (named : (b : ℕ) → b < c .parameters → getD a b 0 < names) where
-  sound-by : (k q s o : ℕ) → q < g → getD a s 0 < names → Sound g (valuesOf a) (modelOf (operationBy k q s o))
-  sound-by k q s o lq ls = go (eqb k 1) (eqb k 2) (eqb k 3) (eqb k 4) (eqb k 5)
+module _ (g : ℕ) (a : List ℕ) (c : Command) (F : Fits g c) (fit : T (all (actualFits bounded (meaning c) (valuesOf a)) parameters 0)) where
+  sound-by : (k q s o : ℕ) → q < g → (T (inOperation s (modelOf (operationBy k q s o))) → getD a s 0 < names) → Sound g (valuesOf a) (modelOf (operationBy k q s o))
+  sound-by k q s o lq = go (eqb k 1) (eqb k 2) (eqb k 3) (eqb k 4) (eqb k 5)
     where
-      go : (b₁ b₂ b₃ b₄ b₅ : Bool)
-          → Sound g (valuesOf a) (modelOf (pick b₁ (Enter q s o) (pick b₂ (Delete q s o) (pick b₃ (CreateSubject s) (pick b₄ (CreateObject s) (pick b₅ (DestroySubject s) (DestroyObject s)))))))
-      go true b₂ b₃ b₄ b₅ = lq
-      go false true b₃ b₄ b₅ = tt
-      go false false true b₄ b₅ = ls
-      go false false false true b₅ = ls
-      go false false false false true = tt
-      go false false false false false = tt
+      op : (b₁ b₂ b₃ b₄ b₅ : Bool) → Operation
+      op b₁ b₂ b₃ b₄ b₅ = pick b₁ (Enter q s o) (pick b₂ (Delete q s o) (pick b₃ (CreateSubject s) (pick b₄ (CreateObject s) (pick b₅ (DestroySubject s) (DestroyObject s)))))
+
+      go : (b₁ b₂ b₃ b₄ b₅ : Bool) → (T (inOperation s (modelOf (op b₁ b₂ b₃ b₄ b₅))) → getD a s 0 < names) → Sound g (valuesOf a) (modelOf (op b₁ b₂ b₃ b₄ b₅))
+      go true b₂ b₃ b₄ b₅ n = lq
+      go false true b₃ b₄ b₅ n = tt
+      go false false true b₄ b₅ n = n (eqb-refl s)
+      go false false false true b₅ n = n (eqb-refl s)
+      go false false false false true n = tt
+      go false false false false false n = tt
 
   sound-all : SoundAll g (valuesOf a) (tabulate (operationOf c) (c .operations) 0)
   sound-all = sound-tabulate g (valuesOf a) (operationOf c) (c .operations) 0 (λ j _ l.
-      sound-by (getD (c .operation) (4 * j) 0) (getD (c .operation) (4 * j + 1) 0) (getD (c .operation) (4 * j + 2) 0) (getD (c .operation) (4 * j + 3) 0)
-      (F .operation-right j (omega arith)) (named (getD (c .operation) (4 * j + 2) 0) (F .operation-first j (omega arith))))
+      let h : j < c .operations = omega arith in
+      let s = getD (c .operation) (4 * j + 2) 0 in
+      sound-by (getD (c .operation) (4 * j) 0) (getD (c .operation) (4 * j + 1) 0) s (getD (c .operation) (4 * j + 3) 0) (F .operation-right j h)
+      (λ n. ltb→lt (getD a s 0) names (fits-name bounded (meaning c) (valuesOf a) fit (F .few-parameters) s (F .operation-first j h) (named-used (meaning c) s (operation-names c s j h n)))))
 
 -- ---- a call that is done leaves a state that fits into the file
 module _ (f : List ℕ) (A : Accepted f) (x : Call) where
@@ -93,23 +97,15 @@ module _ (f : List ℕ) (A : Accepted f) (x : Call) where
       by : (C : Command) → Fits (rightsOf f) C → executeCommand bounded (fileState f) (some (meaning C)) (actuals x) ≡ done m' new → Proper (rightsOf f) m'
       by C G =
           gates-elim (λ o. o ≡ done m' new → Proper (rightsOf f) m')
-          (all (actualFits bounded (C .parameters) (actuals x)) parameters 0) (all (spareExists (meaning C) (fileState f) (actuals x)) (C .parameters) 0)
+          (all (actualFits bounded (meaning C) (actuals x)) parameters 0)
           (holdAll (fileState f) (actuals x) (meaning C .conditions)) (canDoAll (fileState f) (actuals x) (meaning C .operations))
           (done (effectAll (fileState f) (actuals x) (meaning C .operations)) (entersAnyNew (fileState f) (actuals x) (meaning C .operations)))
           (λ n d. absurd (let z : _≡_ {A = ℕ} 0 1 = cc in omega arith))
-          (λ fit _ _ can d.
+          (λ fit _ can d.
           let z : effectAll (fileState f) (actuals x) (meaning C .operations) ≡ m' = cc in
           subst (Proper (rightsOf f)) z
           (proper-all (rightsOf f) (meaning C .operations) (fileState f) (actuals x) (file-proper f A)
-          (sound-all (rightsOf f) (x .a0 ∷ x .a1 ∷ x .a2 ∷ x .a3 ∷ []) C G (λ b l. named C G fit b l)) can))
-        where
-          named : (C : Command) → Fits (rightsOf f) C → T (all (actualFits bounded (C .parameters) (actuals x)) parameters 0) → (b : ℕ) → b < C .parameters → actuals x b < names
-          named C G fit b l =
-              let few = G .few-parameters in
-              let e : actualFits bounded (C .parameters) (actuals x) b ≡ true =
-              all-at (actualFits bounded (C .parameters) (actuals x)) parameters 0 (is-true (all (actualFits bounded (C .parameters) (actuals x)) parameters 0) fit) b (omega arith) (omega arith) in
-              let z : ltb b (C .parameters) ≡ true = lt-ltb b (C .parameters) l in
-              ltb-true (actuals x b) names (rw z at e)
+          (sound-all (rightsOf f) (x .a0 ∷ x .a1 ∷ x .a2 ∷ x .a3 ∷ []) C G fit) can))
 
       go : Dec (x .command < policyOf f .commands) → fileOutcome f x ≡ done m' new → Proper (rightsOf f) m'
       go (yes l) e =
@@ -150,10 +146,10 @@ module _ (f : List ℕ) (x : Call) where
   no-zero n e q = let l : 11 ≤ n = refused-number bounded (fileState f) (getElem? (fileSystem f .commands) (x .command)) (actuals x) n e in omega arith
 
   abbrev Executed : Type 0
-  Executed = (C : ModelCommand) × Admitted bounded (fileSystem f) (fileState f) x C × Executes C (actuals x) (configuration (fileState f)) (configuration (fileState (runFile f x)))
+  Executed = (C : ModelCommand) × Admitted bounded (fileSystem f) x C × Executes C (actuals x) (configuration (fileState f)) (configuration (fileState (runFile f x)))
 
   abbrev NotExecuted : Type 0
-  NotExecuted = (C : ModelCommand) (E : Configuration) → Admitted bounded (fileSystem f) (fileState f) x C → Executes C (actuals x) (configuration (fileState f)) E → ⊥
+  NotExecuted = (C : ModelCommand) (E : Configuration) → Admitted bounded (fileSystem f) x C → Executes C (actuals x) (configuration (fileState f)) E → ⊥
 
   bad : (refusal f ≡ 0 → ⊥) → (runCode f x ≡ refusal f) × (runFile f x ≡ f)
   unfolding runCode runFile

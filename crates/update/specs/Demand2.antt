@@ -16,12 +16,12 @@ pub record Demand2 (f : List ℕ) (x : Call) (r : ℕ) (f' : List ℕ) : Type 0 
   pub bad-file : (refusal f ≡ 0 → ⊥) → (r ≡ refusal f) × (f' ≡ f)
   -- done, "returns 0": the paper's relation executes the command, to the configuration that the new file holds
   pub done-executes : refusal f ≡ 0 → r ≡ 0
-      → (C : Command) × Admitted bounded (fileSystem f) (fileState f) x C × Executes C (actuals x) (configuration (fileState f)) (configuration (fileState f'))
+      → (C : Command) × Admitted bounded (fileSystem f) x C × Executes C (actuals x) (configuration (fileState f)) (configuration (fileState f'))
   -- what the relation executes and document 01 admits is done, to the same configuration
-  pub executes-done : refusal f ≡ 0 → (C : Command) (E : Configuration) → Admitted bounded (fileSystem f) (fileState f) x C → Executes C (actuals x) (configuration (fileState f)) E
+  pub executes-done : refusal f ≡ 0 → (C : Command) (E : Configuration) → Admitted bounded (fileSystem f) x C → Executes C (actuals x) (configuration (fileState f)) E
       → (r ≡ 0) × Same (configuration (fileState f')) E
   -- "If a step cannot be done the whole rule is refused": no byte changed, and the relation does not execute it or document 01 does not admit it
   pub refused-why : refusal f ≡ 0 → (r ≡ 0 → ⊥)
-      → (f' ≡ f) × ((C : Command) (E : Configuration) → Admitted bounded (fileSystem f) (fileState f) x C → Executes C (actuals x) (configuration (fileState f)) E → ⊥)
+      → (f' ≡ f) × ((C : Command) (E : Configuration) → Admitted bounded (fileSystem f) x C → Executes C (actuals x) (configuration (fileState f)) E → ⊥)
   -- "writes only kinds and cells": the file stays accepted, with the same rules
   pub stays : refusal f ≡ 0 → (refusal f' ≡ 0) × (fileSystem f' ≡ fileSystem f)

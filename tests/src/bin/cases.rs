@@ -139,7 +139,7 @@ fn main() {
         same(group, printed(&p2(), 0), text("UNSAFE 2\n0 0 0\n1 0 0\n"));
         same(group, printed(&p3(), 0), text("SAFE 0\n"));
         same(group, printed(&p4(), 0), text("UNSAFE 2\n0 0\n1 0 0\n"));
-        same(group, printed(&p5(), 0), text("SAFE 0\n"));
+        same(group, printed(&p5(), 0), text("UNSAFE 2\n0 0 0\n1 0 0\n"));
         same(group, printed(&draft(1, &[], &[]), 0), text("SAFE 0\n"));
         same(group, printed(&objects(30), 0), text("SAFE 0\n"));
         same(group, printed(&objects(31), 0), text("REFUSED 23\n"));
@@ -188,7 +188,7 @@ fn main() {
             (p2(), Found::Leak),
             (p3(), Found::NoLeak),
             (p4(), Found::Leak),
-            (p5(), Found::NoLeak),
+            (p5(), Found::Leak),
             (draft(1, &[], &[]), Found::NoLeak),
             (p1(), Found::NoLeak),
         ];
@@ -199,8 +199,8 @@ fn main() {
     });
 
     report.group("errors near at hand", 4, |group| {
-        // Only an object, which must come first, fills the unnamed blank.
-        let object_first = with(
+        // The spare blank waits for no object, and the subject is the first name.
+        let no_object = with(
             draft(1, &[], &[]),
             &[
                 rule(2, &[], &[[CREATE_SUBJECT, 0, 0, 0]]),
@@ -208,12 +208,18 @@ fn main() {
                 rule(2, &[], &[[ENTER, 0, 0, 1]]),
             ],
         );
-        let listing = "UNSAFE 3\n1 0\n0 1 0\n2 1 0\n";
-        same(group, printed(&object_first, 0), listing.to_string());
-        // Without the object rule nothing can start.
-        let mut none = object_first.clone();
-        none.rules.remove(1);
-        same(group, printed(&none, 0), "SAFE 0\n".to_string());
+        let listing = "UNSAFE 3\n0 0 0\n1 1\n2 0 0\n";
+        same(group, printed(&no_object, 0), listing.to_string());
+        // The names that conditions want are sought beside spare blanks.
+        let beside = with(
+            draft(2, &[(9, 2)], &[(9, 9, 1)]),
+            &[
+                rule(3, &[[1, 2, 2]], &[[CREATE_OBJECT, 0, 1, 0]]),
+                rule(4, &[[1, 3, 3]], &[[ENTER, 0, 3, 2]]),
+            ],
+        );
+        let listing = "UNSAFE 2\n0 0 0 9\n1 0 0 0 9\n";
+        same(group, printed(&beside, 0), listing.to_string());
         // One name for both blanks is the only way.
         let one_name = with(
             draft(2, &[(7, 2)], &[(7, 7, 1)]),
@@ -267,8 +273,8 @@ fn main() {
         same(group, answer(&[enter], &[0, 1, 255, 255, 255], 0), (15, 0));
     });
 
-    report.group("the order of 11 to 15", 8, |group| {
-        // Blank 2 is unnamed; the condition and the step want subjects.
+    report.group("the order of 11 to 15", 1_500, |group| {
+        // Blank 2 is spare; the condition and the step want subjects.
         let section = rule(3, &[[0, 0, 1]], &[[ENTER, 1, 1, 0]]);
         let file = with(
             draft(2, &[(0, 2), (1, 1)], &[(0, 0, 0), (0, 1, 0)]),
@@ -277,36 +283,68 @@ fn main() {
         .file();
         let answer = |rule: u8, actuals: [u8; 4]| run_file(&mut file.clone(), rule, actuals);
         same(group, answer(1, [99, 99, 99, 0]), 11);
-        same(group, answer(0, [9, 9, 9, 0]), 12);
-        same(group, answer(0, [9, 9, 255, 255]), 12);
-        same(group, answer(0, [9, 9, 9, 255]), 13);
-        same(group, answer(0, [9, 9, 0, 255]), 14);
-        same(group, answer(0, [0, 1, 0, 255]), 15);
-        same(group, answer(0, [0, 0, 0, 255]), 0);
-        // The created name does not fill an unnamed blank of the same run.
-        let mut fresh = p5().file();
-        same(group, run_file(&mut fresh, 0, [4, 4, 255, 255]), 13);
+        for job in 0..=255 {
+            same(group, answer(0, [9, 9, job, 0]), 12);
+            same(group, answer(0, [32, 9, job, 255]), 12);
+            same(group, answer(0, [9, 255, job, 255]), 12);
+            same(group, answer(0, [9, 9, job, 255]), 14);
+            same(group, answer(0, [0, 1, job, 255]), 15);
+            same(group, answer(0, [0, 0, job, 255]), 0);
+        }
+        // The number that is created, one of no name, and the mark of no blank.
+        for job in [4, 117, 255] {
+            let mut fresh = p5().file();
+            same(group, run_file(&mut fresh, 0, [4, job, 255, 255]), 0);
+            let created = file::read(&fresh).unwrap().matrix.names();
+            same(group, created, vec![4]);
+            same(group, run_file(&mut fresh, 0, [5, job, 0, 255]), 12);
+        }
     });
 
-    report.group("the printer's machine has no bound for names", 6, |group| {
-        let contents = file::read(&p4().file()).unwrap();
-        let start = Unbounded::start(&contents.matrix);
-        let far = 1_000_000_007;
-        let created = run(&start, &contents.rules, 0, [far, 255, 255, 255]);
-        let state = created.ok().unwrap().after;
-        same(group, state.is_subject(far), true);
-        let entered = run(&state, &contents.rules, 1, [far, far, 255, 255]);
-        same(group, entered.ok().map(|done| done.leaked), Some(1));
-        let refusal = |rule: u64, actuals: [u64; 4]| {
-            run(&state, &contents.rules, rule, actuals)
-                .err()
-                .unwrap_or(0)
-        };
-        same(group, refusal(0, [255, 255, 255, 255]), 0);
-        same(group, refusal(0, [far, 255, 255, 255]), 15);
-        same(group, refusal(0, [5, 0, 255, 255]), 12);
-        same(group, refusal(u64::MAX, [5, 255, 255, 255]), 11);
+    report.group("the 0 behind a created blank names none", 8, |group| {
+        for kind in [CREATE_SUBJECT, CREATE_OBJECT] {
+            let table = with(draft(1, &[], &[]), &[rule(2, &[], &[[kind, 0, 1, 0]])]);
+            for (actuals, wanted) in [
+                ([117, 3, 255, 255], 0),
+                ([255, 31, 255, 255], 0),
+                ([0, 32, 255, 255], 12),
+                ([3, 255, 255, 255], 12),
+            ] {
+                same(group, run_file(&mut table.file(), 0, actuals), wanted);
+            }
+        }
     });
+
+    report.group(
+        "the printer's machine has no bound for names",
+        10,
+        |group| {
+            let contents = file::read(&p4().file()).unwrap();
+            let start = Unbounded::start(&contents.matrix);
+            let far = 1_000_000_007;
+            let created = run(&start, &contents.rules, 0, [far, 255, 255, 255]);
+            let state = created.ok().unwrap().after;
+            same(group, state.is_subject(far), true);
+            let entered = run(&state, &contents.rules, 1, [far, far, 255, 255]);
+            same(group, entered.ok().map(|done| done.leaked), Some(1));
+            let refusal = |rule: u64, actuals: [u64; 4]| {
+                run(&state, &contents.rules, rule, actuals)
+                    .err()
+                    .unwrap_or(0)
+            };
+            same(group, refusal(0, [255, 255, 255, 255]), 0);
+            same(group, refusal(0, [far, 255, 255, 255]), 15);
+            same(group, refusal(0, [5, 0, 255, 255]), 12);
+            same(group, refusal(u64::MAX, [5, 255, 255, 255]), 11);
+            // Of a spare blank nothing is asked.
+            let contents = file::read(&p5().file()).unwrap();
+            for job in [far, u64::MAX, 255, 5] {
+                let given = run(&start, &contents.rules, 0, [5, job, 255, 255]);
+                let subjects = given.map(|done| (done.after.is_subject(5), done.after.exists(far)));
+                same(group, subjects.ok(), Some((true, false)));
+            }
+        },
+    );
 
     report.group("bounded and unbounded machine agree", 20_000, |group| {
         let mut done = 0;
@@ -331,17 +369,19 @@ fn main() {
     );
 
     report.group("reference and second judge agree", 150, |group| {
+        let mut spare = 0;
         while group.inputs < 150 {
             let (draft, right) = match group.inputs % 3 {
                 0 => (small(random), 0),
                 1 => large(random),
                 _ => chain(random),
             };
-            // The second judge is slow on four blanks.
-            if draft.rules.iter().any(|section| section[0] > 2) {
+            let file = draft.file();
+            // The second judge is slow on three blanks.
+            let rules = file::read(&file).unwrap().rules;
+            if rules.iter().any(|rule| rule.named().count() > 2) {
                 continue;
             }
-            let file = draft.file();
             let mut one = vec![170; reference::desk::BUFFER];
             let mut other = one.clone();
             let account = judge(&file, right, &mut one);
@@ -353,7 +393,11 @@ fn main() {
             group.demand(matches!(account.code, SAFE | UNSAFE), || {
                 format!("refused {}", account.code)
             });
+            spare += u64::from(account.spare > 0);
         }
+        group.demand(spare >= 40, || {
+            format!("only {spare} with a step of a rule with spare blanks")
+        });
     });
 
     report.finish();
@@ -368,7 +412,11 @@ fn agree(group: &mut Group, random: &mut Random, contents: &Contents) -> u64 {
         let (rule, actuals) = likely_run(random, &contents.rules, &bounded);
         let number = u64::from(rule);
         let one = run(&bounded, &contents.rules, number, numbers(actuals));
-        let other = run(&unbounded, &contents.rules, number, numbers(actuals));
+        let mut others = numbers(actuals);
+        for &blank in &contents.rules[rule as usize].spare {
+            others[blank] = random.word();
+        }
+        let other = run(&unbounded, &contents.rules, number, others);
         let good = match (one, other) {
             (Ok(one), Ok(other)) => {
                 carried_out += 1;
@@ -396,9 +444,12 @@ fn agree_with_brute(group: &mut Group, random: &mut Random, contents: &Contents)
         let rule = &contents.rules[number];
         let mut positions = [0; 4];
         let mut actuals = [255; 4];
-        for blank in 0..rule.blanks {
+        for blank in rule.named() {
             positions[blank] = random.below(pool.len());
             actuals[blank] = pool[positions[blank]];
+        }
+        for &blank in &rule.spare {
+            actuals[blank] = u64::from(job_number(random));
         }
         let one = run(&matrix, &contents.rules, number as u64, actuals);
         let other = Instance::new(rule, &positions).run(&state);

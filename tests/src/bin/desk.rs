@@ -5,12 +5,15 @@
 
 use reference::damage::{plant, Fault};
 use reference::desk::desk;
+use reference::file;
 use reference::generate::*;
 use reference::random::Random;
 use reference::report::{hex, Arguments, Group, Report};
 use reference::stored::{cases, Case};
 use std::fs::File;
 use std::io::Write;
+use std::os::fd::OwnedFd;
+use std::os::unix::net::UnixStream;
 use std::path::PathBuf;
 use std::process::{Command, Output, Stdio};
 use std::{env, fs};
@@ -86,20 +89,34 @@ fn said(program: &PathBuf, input: Stdio, output: Stdio) -> Result<(Vec<u8>, Stri
     ))
 }
 
-/// A folder cannot be read: that is no empty input. A full device takes no answer.
+/// A socket whose other end was closed with a byte unread: one read fails, and the next one finds the end.
+fn closed_unread() -> std::io::Result<Stdio> {
+    let (mut ours, theirs) = UnixStream::pair()?;
+    ours.write_all(&[0])?;
+    drop(theirs);
+    Ok(OwnedFd::from(ours).into())
+}
+
+/// A folder cannot be read: that is no empty input, and neither is a read that fails once. A full device takes no answer.
 fn streams_that_fail(group: &mut Group, program: &PathBuf) {
     let open = |path: &str| File::open(path).map(Stdio::from);
     let full = File::options().write(true).open("/dev/full");
-    let (Ok(folder), Ok(example), Ok(full)) = (open("."), open("../tables/vermilion.file"), full)
-    else {
+    let (Ok(folder), Ok(socket), Ok(example), Ok(full)) = (
+        open("."),
+        closed_unread(),
+        open("../tables/vermilion.file"),
+        full,
+    ) else {
         group.input(false, || "the streams could not be opened".to_string());
         return;
     };
-    let read = said(program, folder, Stdio::piped());
-    group.input(
-        matches!(&read, Ok((out, told)) if out.is_empty() && told.starts_with("standard input: ")),
-        || format!("a folder as input: {read:?}"),
-    );
+    for (what, input) in [("a folder", folder), ("a closed socket", socket)] {
+        let read = said(program, input, Stdio::piped());
+        group.input(
+            matches!(&read, Ok((out, told)) if out.is_empty() && told.starts_with("standard input: ")),
+            || format!("{what} as input: {read:?}"),
+        );
+    }
     let written = said(program, example, full.into());
     group.input(
         matches!(&written, Ok((_, told)) if told.starts_with("standard output: ")),
@@ -131,6 +148,16 @@ fn generated(random: &mut Random) -> Vec<u8> {
     };
     input.extend(damaged.unwrap_or_else(|| draft.file()));
     input
+}
+
+/// Whether a step of the listing is of a rule with spare blanks.
+fn lists_spares(input: &[u8], listing: &str) -> bool {
+    let Ok(contents) = file::read(input.get(1..).unwrap_or(&[])) else {
+        return false;
+    };
+    let numbers = listing.lines().skip(1).map(|line| line.split(' ').next());
+    let mut rules = numbers.filter_map(|number| number?.parse::<usize>().ok());
+    rules.any(|rule| !contents.rules[rule].spare.is_empty())
 }
 
 fn main() {
@@ -170,6 +197,10 @@ fn main() {
             let there = stored.iter().any(|case| case.name == name);
             group.demand(there, || format!("no case {name}"));
         }
+        for count in ["one-spare-blank", "two-spare-blanks", "three-spare-blanks"] {
+            let there = stored.iter().any(|case| case.name == count);
+            group.demand(there, || format!("no case {count}"));
+        }
         let refusals = [1, 2, 3, 4, 5, 6, 7, 8, 9, 21, 22, 23];
         let lines = refusals
             .iter()
@@ -192,16 +223,17 @@ fn main() {
     });
 
     if let Some(program) = &desk_program.program {
-        report.group("streams that fail", 2, |group| {
+        report.group("streams that fail", 3, |group| {
             streams_that_fail(group, program);
         });
     }
 
     report.group("generated inputs", 600, |group| {
-        let mut first_words = [0; 3];
+        let (mut first_words, mut spare) = ([0; 3], 0);
         while group.inputs < 600 {
             let input = generated(random);
             let wanted = desk(&input);
+            spare += u64::from(lists_spares(&input, &wanted));
             let words = ["SAFE", "UNSAFE", "REFUSED"];
             let word = words.iter().position(|word| wanted.starts_with(word));
             first_words[word.expect("one of the three")] += 1;
@@ -213,7 +245,10 @@ fn main() {
             );
         }
         let [safe, unsafe_ones, refused] = first_words;
-        println!("  safe {safe}, unsafe {unsafe_ones}, refused {refused}");
+        println!(
+            "  safe {safe}, unsafe {unsafe_ones}, {spare} with spare blanks in their steps, refused {refused}"
+        );
+        group.demand(spare >= 40, || format!("only {spare} with spare blanks in their steps"));
         for count in first_words {
             group.demand(count >= 60, || format!("only {count} of one answer"));
         }

@@ -1,8 +1,8 @@
 //! The pages and the header that users go by, held to the library: the worked
 //! example of docs/FORMAT.md, the table of docs/REFUSALS.md against the
 //! program's own, include/tugcaphi.h with its example in C, compiled and run,
-//! the stack that the calls use, `install`, and that every page that a page
-//! leads to is there. Argument: the seed.
+//! the stack that the calls use, `install`, how many crates README counts, and
+//! that every page that a page leads to is there. Argument: the seed.
 
 use reference::generate::*;
 use reference::random::Random;
@@ -136,6 +136,17 @@ fn refusals_page(group: &mut Group) {
     for row in &rows {
         let number = row[0].parse().unwrap_or_default();
         let own = refusals::of(number);
+        if number == 13 {
+            // The number stays unused, in the program too.
+            let given = refusals::ALL.iter().any(|one| one.number == number);
+            group.input(row[1] == "nobody" && !given, || {
+                format!(
+                    "13 is given by {}, and the program has {}",
+                    row[1], own.meaning
+                )
+            });
+            continue;
+        }
         let own = [own.cause, own.meaning, own.remedy].map(|text| text.replace('`', ""));
         group.input(row[1..] == own, || {
             format!("{number}: the program has {own:?}")
@@ -289,6 +300,30 @@ fn buffer_length(group: &mut Group) {
     }
 }
 
+/// README says how many crates a build proves: the library and what it stands on.
+fn crates_of_a_build(group: &mut Group) {
+    let listed = page("crates.txt");
+    let lines: Vec<(&str, &str)> = listed.lines().filter_map(|l| l.split_once(':')).collect();
+    let mut all = vec!["exports"];
+    let mut at = 0;
+    while let Some(&one) = all.get(at) {
+        let needs = lines.iter().find(|(name, _)| *name == one);
+        let needs = needs.map_or("", |(_, needs)| needs).split_whitespace();
+        // What is not listed is the kit's.
+        let ours = needs.filter(|need| lines.iter().any(|(name, _)| name == need));
+        for need in ours {
+            if !all.contains(&need) {
+                all.push(need);
+            }
+        }
+        at += 1;
+    }
+    let said = format!("each of the {} crates", all.len());
+    group.input(page("README.md").contains(&said), || {
+        format!("it does not say {said:?}")
+    });
+}
+
 /// Every link of a page to a file of the repository leads to one.
 fn links(group: &mut Group) {
     let mut pages = vec![PathBuf::from("../README.md")];
@@ -319,6 +354,7 @@ fn main() {
     report.group("include/tugcaphi.h and its example", 3, header);
     report.group("include/tugcaphi.h: the buffer", 2, buffer_length);
     report.group("install", 4, install);
+    report.group("README.md: the crates of a build", 1, crates_of_a_build);
     report.group("links of the pages", 20, links);
     report.group("include/tugcaphi.h: the stack", 60, |group| {
         stack(group, &mut random)

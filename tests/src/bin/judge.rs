@@ -8,16 +8,56 @@ mod boundary_replay;
 
 use reference::brute::{search, Found, Search};
 use reference::damage::{plant, Fault};
-use reference::file;
+use reference::file::{self, Contents};
 use reference::generate::*;
-use reference::judge::{SAFE, UNSAFE};
+use reference::judge::{Account, SAFE, UNSAFE};
 use reference::random::Random;
-use reference::report::{hex, Arguments, Counts, Report};
+use reference::report::{hex, Arguments, Counts, Group, Report};
 use reference::second;
 use reference::verdict::{compare, needed, Library};
 
 /// More states than this are given up; nothing is known of such a table.
 const LIMIT: usize = 3_000;
+
+/// Rules with spare blanks in the tables, and in the judge's steps.
+#[derive(Default)]
+struct Spares {
+    rules: u64,
+    with: u64,
+    /// Tables whose steps have such a rule: safe, unsafe in a round, unsafe by
+    /// the closing search.
+    used: [u64; 3],
+}
+
+impl Spares {
+    fn add(&mut self, contents: &Contents, account: &Account) {
+        let spare = contents.rules.iter().filter(|rule| !rule.spare.is_empty());
+        self.rules += contents.rules.len() as u64;
+        self.with += spare.count() as u64;
+        if account.spare > 0 {
+            let which = match (account.code, account.closing) {
+                (UNSAFE, true) => 2,
+                (UNSAFE, false) => 1,
+                _ => 0,
+            };
+            self.used[which] += 1;
+        }
+    }
+
+    /// About a third of the rules, and so many tables.
+    fn demand(&self, group: &mut Group, fewest: [u64; 3]) {
+        let (with, rules, used) = (self.with, self.rules, self.used);
+        println!("  spare blanks in {with} of {rules} rules, in the steps of {used:?} tables");
+        group.demand(10 * with >= 3 * rules && 10 * with <= 4 * rules, || {
+            format!("{with} of {rules} rules have spare blanks")
+        });
+        for (sort, (used, fewest)) in used.into_iter().zip(fewest).enumerate() {
+            group.demand(used >= fewest, || {
+                format!("only {used} tables of sort {sort} have spare blanks in their steps")
+            });
+        }
+    }
+}
 
 fn main() {
     let arguments = Arguments::read("judge");
@@ -76,7 +116,8 @@ fn main() {
         }
         let steps = [0, 0, 255, 255, 255, 1, 0, 0, 255, 255];
         try_case(&p4, 0, 200, UNSAFE, &steps);
-        try_case(&p5, 0, 200, SAFE, &[]);
+        let steps = [0, 0, 0, 255, 255, 1, 0, 0, 255, 255];
+        try_case(&p5, 0, 200, UNSAFE, &steps);
         let mut objects = Draft::empty(1);
         try_case(&objects, 0, 200, SAFE, &[]);
         objects.kinds[..30].fill(1);
@@ -90,6 +131,7 @@ fn main() {
         let (mut dull, mut unknown, mut pools) = (0, 0, [0; 2]);
         let (mut all_states, mut most) = (0, 0);
         let (mut destroyed, mut recreated, mut with_refused) = (0, 0, 0);
+        let mut spares = Spares::default();
         while group.inputs < 24_000 {
             let draft = small(random);
             let file = draft.file();
@@ -134,10 +176,12 @@ fn main() {
                 _ => safe += 1,
             }
             counts.add(account.code);
+            spares.add(&contents, &account);
         }
         println!(
             "  safe {safe}, unsafe in a round {by_rounds}, unsafe by the closing search {by_closing}"
         );
+        spares.demand(group, [2_000, 1_000, 500]);
         println!(
             "  three further names {}, two {}; {all_states} states, at most {most}; not exhausted {unknown}, left out {dull}",
             pools[1], pools[0]
@@ -157,6 +201,7 @@ fn main() {
     report.group("larger tables against the plain judge", 1_000, |group| {
         let (mut safe, mut by_rounds, mut by_closing) = (0, 0, 0);
         let (mut long, mut steps, mut rounds) = (0, 0, 0);
+        let mut spares = Spares::default();
         while group.inputs < 1_000 {
             let (draft, right) = large(random);
             let file = draft.file();
@@ -168,6 +213,7 @@ fn main() {
                 _ => safe += 1,
             }
             counts.add(account.code);
+            spares.add(&file::read(&file).unwrap(), &account);
             long += u64::from(account.steps >= 10);
             steps = account.steps.max(steps);
             rounds = account.rounds.max(rounds);
@@ -175,6 +221,7 @@ fn main() {
         println!(
             "  safe {safe}, unsafe in a round {by_rounds}, unsafe by the closing search {by_closing}; {long} with 10 steps or more, at most {steps} steps, {rounds} rounds"
         );
+        spares.demand(group, [200, 50, 20]);
         group.demand(safe >= 200, || format!("only {safe} safe"));
         group.demand(by_rounds >= 50, || format!("only {by_rounds} unsafe in a round"));
         group.demand(by_closing >= 50, || format!("only {by_closing} by the closing search"));
@@ -192,10 +239,12 @@ fn main() {
             draft.rules.truncate(28);
             // Twice each: the second finds a name absent once, and then none.
             for kind in [CREATE_SUBJECT, CREATE_OBJECT, CREATE_OBJECT, CREATE_SUBJECT] {
-                let blanks = random.between(1, 2) as u8;
                 let place = random.below(draft.rules.len() + 1);
-                let section = rule(blanks, &[], &[[kind, 0, blanks - 1, 0]]);
-                draft.rules.insert(place, section);
+                let section = rule(1, &[], &[[kind, 0, 0, 0]]);
+                let spare = random.below(4);
+                draft
+                    .rules
+                    .insert(place, with_spares(random, &section, spare));
             }
             let file = draft.file();
             let (account, _) = compare(group, library, random, &file, right, needed(&file));

@@ -35,7 +35,7 @@ fn main() {
     let mut compared = |what: &str, table: fn(&mut Random) -> (Draft, u8), per_table: [u64; 2]| {
         report.group(what, tables, |group| {
             let (mut safe, mut by_rounds, mut by_closing) = (0, 0, 0);
-            let (mut rounds, mut most, mut steps) = (0, 0, 0);
+            let (mut rounds, mut most, mut steps, mut spare) = (0, 0, 0, 0);
             while group.inputs < tables {
                 let (draft, right) = table(random);
                 let file = draft.file();
@@ -48,11 +48,14 @@ fn main() {
                 rounds += account.rounds;
                 most = most.max(account.rounds);
                 steps += account.steps;
+                spare += account.spare;
             }
             println!(
                 "  safe {safe}, unsafe in a round {by_rounds}, unsafe by the closing search {by_closing}"
             );
-            println!("  {rounds} rounds, at most {most}; {steps} steps");
+            println!(
+                "  {rounds} rounds, at most {most}; {steps} steps, {spare} of rules with spare blanks"
+            );
             // Of few tables no mix can be asked.
             if tables >= 200 {
                 for (count, what) in [
@@ -68,6 +71,9 @@ fn main() {
                 });
                 group.demand(steps >= few_steps * tables, || format!("only {steps} steps"));
                 group.demand(most >= 100, || format!("at most {most} rounds"));
+                group.demand(5 * spare >= steps, || {
+                    format!("only {spare} of {steps} steps have spare blanks")
+                });
             }
         });
     };

@@ -6,7 +6,7 @@ mod boundary_replay;
 mod boundary_run;
 
 use reference::damage::{plant, Fault};
-use reference::file::{self, Contents};
+use reference::file::{self, Contents, Rule};
 use reference::generate::*;
 use reference::machine::{numbers, run, run_file, write_matrix};
 use reference::random::Random;
@@ -17,12 +17,45 @@ use reference::second;
 /// File, trace and right to the answer and the step.
 type Replay = fn(&[u8], &[u8], u8) -> (u8, u64);
 
-/// The functions under test, and how often each answer was seen.
+/// What stood in the spare blanks of rule runs that were carried out.
+#[derive(Default)]
+struct Jobs {
+    seen: Counts,
+    /// Rule runs with one, two and three spare blanks.
+    runs: [u64; 3],
+}
+
+impl Jobs {
+    fn add(&mut self, rule: &Rule, actuals: &[u8]) {
+        for &blank in &rule.spare {
+            self.seen.add(actuals[blank]);
+        }
+        if let Some(last) = rule.spare.len().checked_sub(1) {
+            self.runs[last] += 1;
+        }
+    }
+
+    /// Each byte often enough, and each number of spare blanks.
+    fn demand(&self, group: &mut Group, each: u64, runs: u64) {
+        let bytes: Vec<u8> = (0..=255).collect();
+        self.seen.demand(group, &bytes, each);
+        for (count, &seen) in (1..).zip(&self.runs) {
+            group.input(seen >= runs, || {
+                format!("only {seen} carried out with {count} spare blanks")
+            });
+        }
+    }
+}
+
+/// The functions under test, how often each answer was seen, and what spare
+/// blanks got.
 struct Library {
     run: fn(&mut [u8], u8, [u8; 4]) -> u8,
     replay: Replay,
     runs: Counts,
     replays: Counts,
+    run_jobs: Jobs,
+    replay_jobs: Jobs,
 }
 
 impl Library {
@@ -40,6 +73,10 @@ impl Library {
         let wanted = run_file(file, rule, actuals);
         let given = (self.run)(&mut other, rule, actuals);
         self.runs.add(wanted);
+        if wanted == 0 {
+            let contents = file::read(&before).unwrap();
+            self.run_jobs.add(&contents.rules[rule as usize], &actuals);
+        }
         group.input(given == wanted && other == *file, || {
             format!(
                 "answer {given}, reference {wanted}, bytes {}, rule {rule}, actuals {actuals:?}, on {}",
@@ -61,6 +98,17 @@ impl Library {
         let wanted = replay(file, trace, right);
         let given = (self.replay)(file, trace, right);
         self.replays.add(wanted.0);
+        let carried_out = match wanted {
+            (0, _) => trace.len() / 5,
+            (LEAK, step) => step as usize + 1,
+            (_, step) => step as usize,
+        };
+        if carried_out > 0 {
+            let rules = file::read(file).unwrap().rules;
+            for step in trace.chunks_exact(5).take(carried_out) {
+                self.replay_jobs.add(&rules[step[0] as usize], &step[1..]);
+            }
+        }
         group.input(given == wanted, || {
             format!(
                 "answer {given:?}, reference {wanted:?}, right {right}, trace {}, on {}",
@@ -76,6 +124,14 @@ impl Library {
         });
         wanted
     }
+}
+
+/// The actuals with other bytes in the rule's spare blanks.
+fn renumbered(random: &mut Random, rule: &Rule, mut actuals: [u8; 4]) -> [u8; 4] {
+    for &blank in &rule.spare {
+        actuals[blank] = job_number(random);
+    }
+    actuals
 }
 
 /// A file with a fault that the reader refuses.
@@ -149,6 +205,8 @@ fn main() {
         },
         runs: Counts::default(),
         replays: Counts::default(),
+        run_jobs: Jobs::default(),
+        replay_jobs: Jobs::default(),
     };
     let mut random = Random::new(arguments.seed);
     let random = &mut random;
@@ -191,11 +249,8 @@ fn main() {
                     let contents = file::read(&file).unwrap();
                     let rule = random.below(contents.rules.len()) as u8;
                     let mut actuals = [255; 4];
-                    for actual in actuals
-                        .iter_mut()
-                        .take(contents.rules[rule as usize].blanks)
-                    {
-                        *actual = random.pick(&[0, 1, 29, 30, 31]);
+                    for blank in 0..contents.rules[rule as usize].blanks {
+                        actuals[blank] = random.pick(&[0, 1, 29, 30, 31]);
                     }
                     if library.compare_run(group, &mut file, rule, actuals) == 0 {
                         done += 1;
@@ -207,41 +262,112 @@ fn main() {
     );
 
     report.group("actuals at and past the limits", 30_000, |group| {
+        // In other positions than spare blanks, and in spare blanks.
+        let mut altered = [0; 2];
         while group.inputs < 30_000 {
             let mut file = lively(random).file();
             let contents = file::read(&file).unwrap();
             for _ in 0..10 {
                 // One position of a run that may well be carried out.
                 let (rule, mut actuals) = likely_run(random, &contents.rules, &contents.matrix);
-                actuals[random.below(4)] = random.pick(&[0, 30, 31, 32, 33, 63, 64, 128, 254, 255]);
-                library.compare_run(group, &mut file, rule, actuals);
+                let position = random.below(4);
+                actuals[position] = random.pick(&[0, 30, 31, 32, 33, 63, 64, 128, 254, 255]);
+                let answer = library.compare_run(group, &mut file, rule, actuals);
+                let of = &contents.rules[rule as usize];
+                let spare = of.spare.contains(&position);
+                let wrong = match position < of.blanks {
+                    true => actuals[position] > 31 && !spare,
+                    false => actuals[position] != 255,
+                };
+                group.demand((answer == 12) == wrong, || {
+                    format!("{answer} with {actuals:?}, position {position} altered")
+                });
+                altered[usize::from(spare)] += 1;
             }
             let (_, actuals) = likely_run(random, &contents.rules, &contents.matrix);
             for rule in [contents.rules.len() as u8, 32, 33, 253, 254, 255] {
                 library.compare_run(group, &mut file, rule, actuals);
             }
         }
+        let [others, spare] = altered;
+        group.demand(others >= 10_000 && spare >= 2_000, || {
+            format!("only {others} positions altered, and {spare} spare blanks")
+        });
     });
 
-    report.group("an unnamed blank with an absent name", 20_000, |group| {
-        while group.inputs < 20_000 {
-            let mut draft = lively(random);
-            for section in &mut draft.rules {
-                // One blank more than the rule names.
-                section[0] = (section[0] + 1).min(4);
+    report.group("a spare blank takes any byte", 40_000, |group| {
+        let mut runs = [0; 3];
+        while group.inputs < 40_000 {
+            let mut file = lively(random).file();
+            let contents = file::read(&file).unwrap();
+            let (rule, mut actuals) = likely_run(random, &contents.rules, &contents.matrix);
+            let of = &contents.rules[rule as usize];
+            let Some(last) = of.spare.len().checked_sub(1) else {
+                continue;
+            };
+            let blank = random.pick(&of.spare);
+            // Of refused runs fewer: the byte must not matter there either.
+            let wanted = run_file(&mut file.clone(), rule, actuals);
+            if wanted != 0 && !random.percent(5) {
+                continue;
             }
-            let mut file = draft.file();
-            for _ in 0..20 {
-                let contents = file::read(&file).unwrap();
-                let (rule, mut actuals) = likely_run(random, &contents.rules, &contents.matrix);
-                if random.percent(30) {
-                    let blanks = contents.rules[rule as usize].blanks;
-                    actuals[blanks - 1] = random.below(32) as u8;
-                }
-                library.compare_run(group, &mut file, rule, actuals);
+            runs[last] += u64::from(wanted == 0);
+            let before = file.clone();
+            let mut after: Option<Vec<u8>> = None;
+            for byte in 0..=255 {
+                actuals[blank] = byte;
+                let answer = library.compare_run(group, &mut file, rule, actuals);
+                let alike = after.as_ref().is_none_or(|after| *after == file);
+                group.demand(answer == wanted && alike, || {
+                    format!(
+                        "{answer}, not {wanted}, or other bytes, with {actuals:?}, on {}",
+                        hex(&before)
+                    )
+                });
+                after.get_or_insert_with(|| file.clone());
+                file.copy_from_slice(&before);
             }
         }
+        println!("  done: {runs:?} with one, two and three spare blanks");
+        for (count, done) in (1..).zip(runs) {
+            group.demand(done >= 10, || {
+                format!("only {done} with {count} spare blanks")
+            });
+        }
     });
+
+    report.group(
+        "rule runs that differ in spare blanks alone",
+        20_000,
+        |group| {
+            let mut done = 0;
+            while group.inputs < 20_000 {
+                let mut file = lively(random).file();
+                for _ in 0..20 {
+                    let contents = file::read(&file).unwrap();
+                    let (rule, actuals) = likely_run(random, &contents.rules, &contents.matrix);
+                    let of = &contents.rules[rule as usize];
+                    if of.spare.is_empty() {
+                        continue;
+                    }
+                    let (mut one, mut other) = (file.clone(), file.clone());
+                    let others = renumbered(random, of, actuals);
+                    let answers = [
+                        (library.run)(&mut one, rule, actuals),
+                        (library.run)(&mut other, rule, others),
+                    ];
+                    group.demand(answers[0] == answers[1] && one == other, || {
+                        format!(
+                            "{answers:?} with {actuals:?} and {others:?} on {}",
+                            hex(&file)
+                        )
+                    });
+                    done += u64::from(library.compare_run(group, &mut file, rule, others) == 0);
+                }
+            }
+            group.demand(done >= 5_000, || format!("only {done} carried out"));
+        },
+    );
 
     report.group("rule runs on wrong files", 10_000, |group| {
         while group.inputs < 10_000 {
@@ -301,6 +427,56 @@ fn main() {
             }
         }
         group.demand(long >= 3_000, || format!("only {long} answers past step 9"));
+    });
+
+    report.group("replays of traces with job numbers", 20_000, |group| {
+        let (mut carried_out, mut leaks) = (0, 0);
+        while group.inputs < 20_000 {
+            let mut file = lively(random).file();
+            let mut contents = file::read(&file).unwrap();
+            settle(random, &mut file, &mut contents);
+            let length = random.pick(&[1, 5, 20, 40]);
+            let mut steps = trace(random, &contents, length);
+            // The first of them that may be refused, for another reason.
+            if random.percent(30) {
+                let (rule, actuals) = likely_run(random, &contents.rules, &contents.matrix);
+                steps.push(rule);
+                steps.extend(actuals);
+            }
+            let mut numbers = 0;
+            for step in steps.chunks_exact_mut(5) {
+                for &blank in &contents.rules[step[0] as usize].spare {
+                    step[1 + blank] = random.between(32, 255) as u8;
+                    numbers += 1;
+                }
+            }
+            if numbers == 0 {
+                continue;
+            }
+            let right = choose_right(random, &file, &contents, &steps);
+            let answer = library.compare_replay(group, &file, &steps, right);
+            // With other numbers it is the same replay.
+            for step in steps.chunks_exact_mut(5) {
+                let rule = &contents.rules[step[0] as usize];
+                let actuals = [step[1], step[2], step[3], step[4]];
+                step[1..].copy_from_slice(&renumbered(random, rule, actuals));
+            }
+            let other = (library.replay)(&file, &steps, right);
+            group.demand(answer == other, || {
+                format!(
+                    "{answer:?}, with other numbers {other:?}, right {right}, trace {}, on {}",
+                    hex(&steps),
+                    hex(&file)
+                )
+            });
+            carried_out += u64::from(answer.0 == 0);
+            leaks += u64::from(answer.0 == LEAK);
+        }
+        println!("  no leak {carried_out}, a leak {leaks}");
+        group.demand(carried_out >= 4_000, || {
+            format!("only {carried_out} without a leak")
+        });
+        group.demand(leaks >= 4_000, || format!("only {leaks} leaks"));
     });
 
     report.group("replays with one step altered", 20_000, |group| {
@@ -388,16 +564,28 @@ fn main() {
         }
     });
 
-    report.group("each answer of a run was seen", 15, |group| {
-        let answers = [0, 1, 2, 3, 4, 5, 6, 7, 8, 9, 11, 12, 13, 14, 15];
+    report.group("each answer of a run was seen", 14, |group| {
+        let answers = [0, 1, 2, 3, 4, 5, 6, 7, 8, 9, 11, 12, 14, 15];
         library.runs.demand(group, &answers, 100);
     });
-    report.group("each answer of a replay was seen", 18, |group| {
-        let answers = [
-            0, 1, 2, 3, 4, 5, 6, 7, 8, 9, 11, 12, 13, 14, 15, 21, 31, LEAK,
-        ];
+    report.group("each answer of a replay was seen", 17, |group| {
+        let answers = [0, 1, 2, 3, 4, 5, 6, 7, 8, 9, 11, 12, 14, 15, 21, 31, LEAK];
         library.replays.demand(group, &answers, 100);
     });
+    report.group(
+        "each byte was seen in spare blanks of runs that were done",
+        259,
+        |group| {
+            library.run_jobs.demand(group, 100, 1_000);
+        },
+    );
+    report.group(
+        "each byte was seen in spare blanks of replayed steps",
+        259,
+        |group| {
+            library.replay_jobs.demand(group, 100, 1_000);
+        },
+    );
     library.runs.print("answers of runs");
     library.replays.print("answers of replays (255 is a leak)");
     report.finish();

@@ -49,6 +49,37 @@ fn modes(scene: &Scene, group: &mut Group) {
     }
 }
 
+/// A file that nobody may write is not replaced, by root neither, and neither by `make`.
+fn unwritable(scene: &Scene, group: &mut Group) {
+    for mode in [0o444, 0o400, 0o555] {
+        scene.reset(&table());
+        scene.write("words", b"table 1\nrights own\n");
+        scene.set_mode(FILE, mode);
+        let answers = [
+            said(&mut scene.run(0, &[])),
+            scene.call(&["make", "words", "-o", FILE, "--force"]),
+        ];
+        for answer in answers {
+            let good = answer.stopped("write this file") && scene.mode(FILE) == mode;
+            group.demand(good, || format!("{mode:o}: {answer:?}"));
+            scene.stands(
+                group,
+                &table(),
+                b"",
+                "a file that nobody may write",
+                &answer,
+            );
+        }
+    }
+    scene.reset(&table());
+    scene.write(LOG, b"");
+    scene.set_mode(LOG, 0o444);
+    let answer = said(&mut scene.run(0, &["--log", LOG]));
+    let good = answer.stopped("the log cannot be written") && scene.mode(LOG) == 0o444;
+    group.demand(good, || format!("a log: {answer:?}"));
+    scene.stands(group, &table(), b"", "its log", &answer);
+}
+
 /// An access control list: version 2, then (kind, permissions, who).
 fn access_list(entries: &[(u16, u16, u32)]) -> Vec<u8> {
     let mut list = 2u32.to_le_bytes().to_vec();
@@ -322,6 +353,9 @@ fn main() {
 
 fn groups(scene: &Scene, report: &mut Report) {
     report.group("modes are kept", 27, |group| modes(scene, group));
+    report.group("a file that nobody may write", 7, |group| {
+        unwritable(scene, group)
+    });
     let mut listed = true;
     report.group("attributes are kept", 1, |group| {
         listed = attributes(scene, group);

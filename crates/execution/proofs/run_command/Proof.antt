@@ -1,4 +1,4 @@
-use Rattle.execution.proofs.Running.{spares-apply, conditions-apply, operations-apply, refused-12, refused-13, refused-14, refused-15, done-leaked, done-quiet}
+use Rattle.execution.proofs.Running.{conditions-apply, operations-apply, refused-12, refused-14, refused-15, done-leaked, done-quiet}
 use borrow.Author.Needs.{needs}
 use Rattle.execution.proofs.run_command.Statement.{statement}
 use Rattle.execution.proofs.run_command.Tie as tie
@@ -12,38 +12,29 @@ refused-with-requires c κs = search needs
 returns : tie.Need-returns
 returns c = search refused-12
 
-spares-exist-requires : tie.Need-spares-exist-requires
-spares-exist-requires c κs = spares-apply _ _ (c .before .before .before .before .pre .1) _ (c .before .before .before .actuals-fit .ensures) (c .before .before .if1 .left)
+conditions-hold-requires : tie.Need-conditions-hold-requires
+conditions-hold-requires c κs = search conditions-apply
 
 refused-with-requires-2 : tie.Need-refused-with-requires-2
 refused-with-requires-2 c κs = search needs
 
 returns-2 : tie.Need-returns-2
-returns-2 c = search refused-13
+returns-2 c = search refused-14
 
-conditions-hold-requires : tie.Need-conditions-hold-requires
-conditions-hold-requires c κs = conditions-apply _ _ (c .before .before .before .before .before .before .before .before .before .pre .1) _ (c .before .before .before .before .before .before .before .before .actuals-fit .ensures) (c .before .before .before .before .before .before .before .if1 .left)
+run-operations-requires : tie.Need-run-operations-requires
+run-operations-requires c κs = search operations-apply
 
 refused-with-requires-3 : tie.Need-refused-with-requires-3
 refused-with-requires-3 c κs = search needs
 
 returns-3 : tie.Need-returns-3
-returns-3 c = search refused-14
-
-run-operations-requires : tie.Need-run-operations-requires
-run-operations-requires c κs = (c .before .before .before .before .before .before .before .before .before .before .before .pre .0, operations-apply _ _ (c .before .before .before .before .before .before .before .before .before .before .before .pre .1) _ (c .before .before .before .before .before .before .before .before .before .before .actuals-fit .ensures) (c .before .before .before .before .before .before .before .before .before .if1 .left))
-
-refused-with-requires-4 : tie.Need-refused-with-requires-4
-refused-with-requires-4 c κs = search needs
+returns-3 c = search refused-15
 
 returns-4 : tie.Need-returns-4
-returns-4 c = search refused-15
+returns-4 c = search done-leaked
 
 returns-5 : tie.Need-returns-5
-returns-5 c = search done-leaked
-
-returns-6 : tie.Need-returns-6
-returns-6 c = search done-quiet
+returns-5 c = search done-quiet
 
 pub run-command-spec : {M : Type 1} → statement M
 run-command-spec =
@@ -52,14 +43,11 @@ run-command-spec =
     actuals-fit-requires
     refused-with-requires
     returns
-    spares-exist-requires
+    conditions-hold-requires
     refused-with-requires-2
     returns-2
-    conditions-hold-requires
+    run-operations-requires
     refused-with-requires-3
     returns-3
-    run-operations-requires
-    refused-with-requires-4
     returns-4
-    returns-5
-    returns-6)
+    returns-5)

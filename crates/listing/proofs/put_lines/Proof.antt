@@ -1,10 +1,10 @@
 use mathlib.Core.Logic.{⊎-elim}
-use Rattle.listing.proofs.Lines.{no-blanks, lines-start, lines-next, lines-end}
+use Rattle.listing.proofs.Lines.{no-parameters, lines-start, lines-next, lines-end}
 use Prim.Native.Nat.{_+_, _*_, _-_, _≤_}
 use mathlib.Core.Path.{_≡_, refl}
 use lib.ListN.{length, getD}
 use Rattle.trace.specs.Traces.{calls}
-use Rattle.listing.specs.Listing.{blanksOf, lines}
+use Rattle.listing.specs.Listing.{parametersOf, lines}
 use Rattle.listing.specs.Writing.{Put}
 use borrow.Author.Needs.{needs}
 use native.Mathlib.Omega.{arith}
@@ -44,12 +44,12 @@ add-i c = omega arith
 loop-less : tie.Need-loop-less Inv-loop μ-loop
 loop-less c = omega arith
 
--- the branch gives the rule's blanks
-blanks : (c : tie.Joined1 Inv-loop μ-loop) → c .if1 .k ≡ blanksOf (c .before .before .before .before .before .before .args .t3) (getD (c .before .before .before .before .before .before .args .steps .now) (5 * c .before .before .before .loop .i) 0)
-blanks c = ⊎-elim (λ w. w .2) (λ w. search no-blanks) (c .if1 .came)
+-- the branch gives the command's number of parameters
+parameters : (c : tie.Joined1 Inv-loop μ-loop) → c .if1 .k ≡ parametersOf (c .before .before .before .before .before .before .args .t3) (getD (c .before .before .before .before .before .before .args .steps .now) (5 * c .before .before .before .loop .i) 0)
+parameters c = ⊎-elim (λ w. w .2) (λ w. search no-parameters) (c .if1 .came)
 
 loop-again : tie.Need-loop-again Inv-loop μ-loop
-loop-again c = let z = blanks (c .before .before .before .before) in (omega arith, omega arith, omega arith, search lines-next)
+loop-again c = let z = parameters (c .before .before .before .before) in (omega arith, omega arith, omega arith, search lines-next)
 
 same-length : tie.Need-same-length Inv-loop μ-loop
 same-length c = search needs

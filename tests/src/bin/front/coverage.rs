@@ -22,18 +22,23 @@ const STATUSES: [(&str, &[i32]); 6] = [
 ];
 
 /// The judge's buffer is always long enough, so no 24.
-const REFUSALS: [u8; 18] = [
-    1, 2, 3, 4, 5, 6, 7, 8, 9, 11, 12, 13, 14, 15, 21, 22, 23, 31,
-];
+const REFUSALS: [u8; 17] = [1, 2, 3, 4, 5, 6, 7, 8, 9, 11, 12, 14, 15, 21, 22, 23, 31];
 
 pub fn run(report: &mut Report, shown: &Shown) {
     report.group("every command with every exit status", 19, |group| {
         statuses(group, shown)
     });
+    report.group("what went wrong comes with what to do", 150, |group| {
+        for told in shown.told.iter().filter(|told| told.said.status == 3) {
+            let err = String::from_utf8_lossy(&told.said.err);
+            let hint = |line: &str| line.trim_start().starts_with("= hint: ");
+            group.input(err.lines().any(hint), || format!("{:?}: {err}", told.words));
+        }
+    });
     report.group("every mistake of the table reader", 37, |group| {
         mistakes(group, shown)
     });
-    report.group("every refusal that the program can meet", 18, |group| {
+    report.group("every refusal that the program can meet", 17, |group| {
         refusals(group, shown)
     });
     let answers = answers(shown);
@@ -101,7 +106,10 @@ type Answers<'a> = Vec<(&'a Told, Result<Value, String>)>;
 
 /// What commands with --json printed.
 fn answers(shown: &Shown) -> Answers<'_> {
-    let asked = |told: &&Told| told.words.iter().any(|word| word == "--json");
+    let asked = |told: &&Told| {
+        let mut options = told.words.iter().take_while(|word| *word != "--");
+        options.any(|word| word == "--json")
+    };
     let told = shown.told.iter().filter(asked);
     told.map(|told| (told, json::parse(&String::from_utf8_lossy(&told.said.out))))
         .collect()

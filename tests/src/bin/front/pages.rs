@@ -4,15 +4,72 @@
 use super::stories::{contents, single};
 use super::wording::Wording;
 use super::xml::{parse, Element, Node};
+use super::{extents, grids};
 use reference::generate::{chain, large, lively, small};
 use reference::random::Random;
 use reference::report::Report;
 use std::fs;
 use tugcaphi::input::Content;
+use tugcaphi::picture::canvas::measure;
+use tugcaphi::story::Jobs;
+use tugcaphi::trace::Step;
 use tugcaphi::verdict::{judge, Ruling, Verdict};
 use tugcaphi::{picture, report, story};
 
 pub fn run(report: &mut Report, seed: u64) {
+    let cases = cases(seed);
+    report.group(
+        "no letter is wider than a picture takes it for",
+        95,
+        |group| {
+            for (character, width) in (' '..='~').zip(extents::BOLD) {
+                let taken = measure(&character.to_string(), 1_000);
+                let fits = (width as usize..=1_500.min(2 * width as usize)).contains(&taken);
+                group.input(fits, || format!("{character:?}: {taken} for {width}"));
+            }
+        },
+    );
+    report.group(
+        "pictures are well-formed and tell every step",
+        135,
+        |group| {
+            for (content, verdicts) in &cases {
+                let svg = picture::svg("a <table> & \"more\"", content, verdicts);
+                let said = picture_held(&svg, content, verdicts);
+                group.input(said.is_ok(), || format!("{said:?}"));
+            }
+        },
+    );
+    report.group("pages are well-formed and tell everything", 135, |group| {
+        for (content, verdicts) in &cases {
+            let page = report::page("a <table> & \"more\"", content, verdicts);
+            let said = page_held(&page, content, verdicts);
+            group.input(said.is_ok(), || format!("{said:?}"));
+        }
+    });
+    report.group("spare blanks in pictures and pages", 3, |group| {
+        let (content, verdicts) = judged(SPARE.as_bytes());
+        let svg = picture::svg("spare", &content, &verdicts[1..]);
+        // Of so many names only those that take part are drawn; the judge's 0 is none.
+        let drawn = |name: &str| svg.contains(&format!(">{name}<"));
+        group.input(drawn("press9") && !drawn("press0"), || svg.clone());
+        let page = report::page("spare", &content, &verdicts);
+        let told = page.contains("<b>order (press9)</b>") && page.contains(LEFT_OUT);
+        group.input(told, || page.clone());
+        let (content, verdicts) = judged(SPARE.replace("job, ", "").as_bytes());
+        let page = report::page("spare", &content, &verdicts);
+        group.input(!page.contains(LEFT_OUT), || page.clone());
+    });
+}
+
+/// Rules with a spare blank, on more names than a picture shows unasked.
+const SPARE: &str =
+    "table 1\nrights own print\nsubjects press0..press14\ncell (press9, press9): own\n\
+    rule order (job, a): if own in (a, a) enter print into (a, a)\n";
+const LEFT_OUT: &str = "it is left out of the steps";
+
+/// The example tables, random ones, and such with long words.
+fn cases(seed: u64) -> Vec<(Content, Vec<Verdict>)> {
     let mut cases = examples();
     let mut random = Random::new(seed ^ 0x5F6);
     for i in 0..120 {
@@ -25,24 +82,35 @@ pub fn run(report: &mut Report, seed: u64) {
         let wording = Wording::any(&mut random, &draft);
         cases.push(contents(&draft.file(), &wording));
     }
-    report.group(
-        "pictures are well-formed and tell every step",
-        126,
-        |group| {
-            for (content, verdicts) in &cases {
-                let svg = picture::svg("a <table> & \"more\"", content, verdicts);
-                let said = picture_held(&svg, content, verdicts);
-                group.input(said.is_ok(), || format!("{said:?}"));
-            }
-        },
+    cases.extend(LETTERS.chars().map(long_words));
+    cases
+}
+
+/// Letters of which the longest words are made.
+const LETTERS: &str = "OWmr@#0жあ";
+
+/// A table whose words are as long as they may be.
+fn long_words(letter: char) -> (Content, Vec<Verdict>) {
+    let word = |first: char| format!("\"{first}{}\"", letter.to_string().repeat(63));
+    let [own, read, ada, ben, ink, lend] = ['a', 'b', 'c', 'd', 'e', 'f'].map(word);
+    let text = format!(
+        "table 1\nrights {own} {read}\nsubjects {ada} {ben}\nobjects {ink}\ncell ({ada}, {ink}): {own} {read}\n\
+         cell ({ada}, {ben}): {own}\nrule {lend} (x, y, z): if {own} in (x, z) enter {read} into (y, z)\n"
     );
-    report.group("pages are well-formed and tell everything", 126, |group| {
-        for (content, verdicts) in &cases {
-            let page = report::page("a <table> & \"more\"", content, verdicts);
-            let said = page_held(&page, content, verdicts);
-            group.input(said.is_ok(), || format!("{said:?}"));
-        }
-    });
+    judged(text.as_bytes())
+}
+
+/// A table with the verdicts on all its rights.
+fn judged(text: &[u8]) -> (Content, Vec<Verdict>) {
+    let table = tugcaphi::table::read(text).expect("a table of ours");
+    let file = tugcaphi::house::encode::encode(&table.house);
+    let content = Content {
+        house: table.house,
+        words: table.words,
+    };
+    let verdicts = (0..file[0]).map(|right| judge(&file, &content.house, right));
+    let verdicts = verdicts.collect::<Result<_, _>>();
+    (content, verdicts.expect("steps that can be done"))
 }
 
 fn examples() -> Vec<(Content, Vec<Verdict>)> {
@@ -50,18 +118,7 @@ fn examples() -> Vec<(Content, Vec<Verdict>)> {
     let paths = entries.filter_map(|entry| entry.ok().map(|entry| entry.path()));
     let mut cases = Vec::new();
     for path in paths.filter(|path| path.extension().is_some_and(|e| e == "table")) {
-        let text = fs::read(&path).expect("an example table");
-        let table = tugcaphi::table::read(&text).expect("an example table");
-        let file = tugcaphi::house::encode::encode(&table.house);
-        let content = Content {
-            house: table.house,
-            words: table.words,
-        };
-        let verdicts = (0..file[0]).map(|right| judge(&file, &content.house, right));
-        let verdicts = verdicts
-            .collect::<Result<_, _>>()
-            .expect("steps that can be done");
-        cases.push((content, verdicts));
+        cases.push(judged(&fs::read(&path).expect("an example table")));
     }
     cases
 }
@@ -76,6 +133,7 @@ fn picture_held(svg: &str, content: &Content, verdicts: &[Verdict]) -> Result<()
         "no viewBox".into()
     })?;
     inside(&root, (0, 0), (width, height))?;
+    extents::held(&root, (width, height))?;
     let texts: Vec<String> = root.named("tspan").iter().map(|e| e.text()).collect();
     for verdict in verdicts {
         let right = content.words.right_alone(usize::from(verdict.right));
@@ -84,7 +142,7 @@ fn picture_held(svg: &str, content: &Content, verdicts: &[Verdict]) -> Result<()
         })?;
         if let Ruling::Unsafe(leak) = &verdict.ruling {
             for done in leak.steps.iter().take(30).chain(leak.steps.last()) {
-                let call = story::call(&content.words, done.step);
+                let call = called(content, done.step);
                 is(texts.contains(&call), || {
                     format!("the step {call} is not there")
                 })?;
@@ -92,6 +150,11 @@ fn picture_held(svg: &str, content: &Content, verdicts: &[Verdict]) -> Result<()
         }
     }
     local(&root)
+}
+
+/// A step of the judge's in words.
+fn called(content: &Content, step: Step) -> String {
+    story::call(&content.words, &content.house.rules, step, Jobs::LeftOut)
 }
 
 /// Every shape and every beginning of a text lies inside the picture.
@@ -103,12 +166,7 @@ fn inside(element: &Element, (x, y): (i64, i64), size: (i64, i64)) -> Result<(),
             format!("a {} at {at_x} {at_y} of {size:?}", element.name)
         })?;
     }
-    let moved = element.attribute("transform").and_then(|text| {
-        let inner = text.strip_prefix("translate(")?.strip_suffix(')')?;
-        let (x, y) = inner.split_once(' ')?;
-        Some((x.parse::<i64>().ok()?, y.parse::<i64>().ok()?))
-    });
-    let (by_x, by_y) = moved.unwrap_or((0, 0));
+    let (by_x, by_y) = extents::moved(element);
     for child in &element.children {
         if let Node::Element(child) = child {
             inside(child, (x + by_x, y + by_y), size)?;
@@ -144,11 +202,16 @@ fn page_held(page: &str, content: &Content, verdicts: &[Verdict]) -> Result<(), 
     let titles = root.named("title");
     let titled = |title: &&Element| title.text().contains("a <table> & \"more\"");
     is(titles.iter().any(titled), || "another title".into())?;
+    for picture in root.named("svg") {
+        let size = |name: &str| picture.attribute(name).and_then(|value| value.parse().ok());
+        extents::held(picture, size("width").zip(size("height")).ok_or("no size")?)?;
+    }
     let mut pictures = 0;
     for verdict in verdicts {
         verdict_held(&root, content, verdict)?;
         pictures += usize::from(matches!(verdict.ruling, Ruling::Unsafe(_)));
     }
+    grids::held(&root, content)?;
     is(root.named("svg").len() == pictures, || {
         "a picture for each unsafe right".into()
     })?;
@@ -170,7 +233,7 @@ fn verdict_held(root: &Element, content: &Content, verdict: &Verdict) -> Result<
     is(rows.iter().any(row), || format!("no row {begin}"))?;
     let told: Vec<String> = root.named("li").iter().map(|item| item.text()).collect();
     for done in steps {
-        let call = story::call(words, done.step);
+        let call = called(content, done.step);
         let line = format!("{call} {}", story::sentence(words, &done.acts));
         is(told.contains(&line), || format!("no step {line}"))?;
     }

@@ -1,11 +1,13 @@
 //! The steps in words against a replay: each line of a printed verdict is read
 //! back into numbers, is the step that the judge wrote, and does what it says on
 //! the reference's machine; the right comes in at the last step and not sooner.
+//! Spare blanks, with the judge's 0, are left out there; in runs and replays they
+//! are told.
 
 use super::execute::Folder;
 use super::wording::Wording;
-use reference::file;
-use reference::generate::{chain, large, lively, small, Draft};
+use reference::file::{self, Rule};
+use reference::generate::{chain, large, likely_run, lively, small, Draft};
 use reference::machine::run_file;
 use reference::random::Random;
 use reference::replay::{replay, LEAK};
@@ -15,7 +17,9 @@ use std::collections::BTreeMap;
 use std::fs;
 use tugcaphi::input::Content;
 use tugcaphi::library::{self, Judgement};
+use tugcaphi::story::{call, Jobs};
 use tugcaphi::terminal::Style;
+use tugcaphi::trace::steps;
 use tugcaphi::verdict::{judge, text::lines, Verdict};
 use tugcaphi::words::{RuleWords, Words};
 
@@ -39,6 +43,7 @@ pub fn run(report: &mut Report, seed: u64) {
     });
     let mut random = Random::new(seed ^ 0x5708);
     report.group("steps in words of random tables", 400, |group| {
+        let mut spare = 0;
         for i in 0..400 {
             let draft = single(&mut random, |random| match i % 4 {
                 0 => large(random).0,
@@ -50,9 +55,52 @@ pub fn run(report: &mut Report, seed: u64) {
             let wording = Wording::any(&mut random, &draft);
             let (content, verdicts) = contents(&file, &wording);
             let printed = lines(&content, &verdicts, Style::PLAIN);
-            held(group, &content.words, &file, &printed);
+            spare += held(group, &content.words, &file, &printed);
         }
+        group.demand(spare >= 500, || {
+            format!("only {spare} steps of rules with spare blanks")
+        });
     });
+    report.group("job numbers in words", 4_000, |group| {
+        let mut seen = [false; 256];
+        while group.inputs < 4_000 {
+            let draft = lively(&mut random);
+            let file = draft.file();
+            let wording = Wording::any(&mut random, &draft);
+            jobs(group, &mut random, file, words_of(&wording), &mut seen);
+        }
+        let unseen = seen.iter().filter(|seen| !**seen).count();
+        group.demand(unseen == 0, || format!("{unseen} numbers were not seen"));
+    });
+}
+
+/// Steps that can be done one after the other, of rules with spare blanks: in
+/// words each is the step that it was.
+fn jobs(
+    group: &mut Group,
+    random: &mut Random,
+    mut file: Vec<u8>,
+    words: Words,
+    seen: &mut [bool; 256],
+) {
+    let reading = Reading::new(&words);
+    let house = tugcaphi::house::decode::decode(&file);
+    for _ in 0..30 {
+        let contents = file::read(&file).expect("an accepted file");
+        let (rule, actuals) = likely_run(random, &contents.rules, &contents.matrix);
+        let spare = &contents.rules[usize::from(rule)].spare;
+        if run_file(&mut file, rule, actuals) != 0 || spare.is_empty() {
+            continue;
+        }
+        let [a, b, c, d] = actuals;
+        let step = [rule, a, b, c, d];
+        let told = call(&words, &house.rules, steps(&step)[0], Jobs::Told);
+        let read = reading.call(&mut Line::new(&told), &contents.rules, Jobs::Told);
+        group.input(read == Ok(step), || format!("{read:?}: {told}, {step:?}"));
+        for &blank in spare {
+            seen[usize::from(actuals[blank])] = true;
+        }
+    }
 }
 
 /// A draft with rules of one step and at most 30 names, as the judge takes it.
@@ -95,8 +143,9 @@ pub fn contents(file: &[u8], wording: &Wording) -> (Content, Vec<Verdict>) {
     (content, verdicts)
 }
 
-/// Holds every printed verdict to the file.
-fn held(group: &mut Group, words: &Words, file: &[u8], printed: &str) {
+/// Holds every printed verdict to the file. Gives the number of steps of rules
+/// with spare blanks.
+fn held(group: &mut Group, words: &Words, file: &[u8], printed: &str) -> u64 {
     let reading = Reading::new(words);
     let mut verdicts: Vec<Vec<&str>> = Vec::new();
     for line in printed.lines() {
@@ -111,10 +160,13 @@ fn held(group: &mut Group, words: &Words, file: &[u8], printed: &str) {
     group.demand(verdicts.len() == usize::from(file[0]), || {
         format!("verdicts: {printed}")
     });
+    let mut spare = 0;
     for (right, verdict) in verdicts.iter().enumerate() {
         let said = reading.verdict(right, verdict, file);
         group.input(said.is_ok(), || format!("{said:?} in {verdict:?}"));
+        spare += said.unwrap_or(0);
     }
+    spare
 }
 
 /// What the words stand for.
@@ -141,7 +193,7 @@ impl Reading {
         }
     }
 
-    fn verdict(&self, right: usize, lines: &[&str], file: &[u8]) -> Result<(), String> {
+    fn verdict(&self, right: usize, lines: &[&str], file: &[u8]) -> Result<u64, String> {
         let mut head = Line::new(lines[0]);
         let asked = self.find(&self.rights, &head.word()?)?;
         let verdict = head.word()?;
@@ -151,7 +203,7 @@ impl Reading {
         let mut buffer = vec![0; 50_000];
         let answer = library::judge(file, right as u8, &mut buffer);
         match (verdict.as_str(), answer) {
-            ("SAFE", Judgement::Safe(_)) => holding(lines[0], right, file),
+            ("SAFE", Judgement::Safe(_)) => holding(lines[0], right, file).map(|()| 0),
             ("UNSAFE", Judgement::Unsafe(steps)) => {
                 let trace = &buffer[..5 * steps as usize];
                 self.steps(right, &lines[1..], file, trace)
@@ -161,17 +213,26 @@ impl Reading {
     }
 
     /// The steps are the judge's, each does what is said of it, and the last one leaks.
-    fn steps(&self, right: usize, lines: &[&str], file: &[u8], trace: &[u8]) -> Result<(), String> {
+    fn steps(
+        &self,
+        right: usize,
+        lines: &[&str],
+        file: &[u8],
+        trace: &[u8],
+    ) -> Result<u64, String> {
         let (last, steps) = lines.split_last().ok_or("no steps")?;
+        let rules = file::read(file).expect("an accepted file").rules;
         let mut state = file.to_vec();
         let mut told = Vec::new();
         let mut entered = None;
+        let mut spare = 0;
         for (i, line) in steps.iter().enumerate() {
             let mut words = Line::new(line.trim_start());
             words.expect(&format!("{}.", i + 1))?;
-            let step = self.call(&mut words)?;
+            let step = self.call(&mut words, &rules, Jobs::LeftOut)?;
             let before = state.clone();
             let [rule, a, b, c, d] = step;
+            spare += u64::from(!rules[usize::from(rule)].spare.is_empty());
             let refusal = run_file(&mut state, rule, [a, b, c, d]);
             let effect = difference(&before, &state);
             let said = self.clause(&mut words)?;
@@ -199,7 +260,7 @@ impl Reading {
                 "replayed {code} at {step}, told {told:?}, trace {trace:?}"
             ));
         }
-        Ok(())
+        Ok(spare)
     }
 
     fn find(&self, words: &BTreeMap<String, usize>, word: &str) -> Result<usize, String> {
@@ -209,16 +270,29 @@ impl Reading {
             .ok_or_else(|| format!("nothing is called {word:?}"))
     }
 
-    /// `lend (Ada, Ben)` as five bytes.
-    fn call(&self, line: &mut Line) -> Result<[u8; 5], String> {
+    /// `lend (Ada, job 117)` as five bytes. Left out, a job number is 0.
+    fn call(&self, line: &mut Line, rules: &[Rule], jobs: Jobs) -> Result<[u8; 5], String> {
+        let number = self.find(&self.rules, &line.word()?)?;
+        let rule = &rules[number];
         let mut step = [255; 5];
-        step[0] = self.find(&self.rules, &line.word()?)? as u8;
-        line.expect("(")?;
-        for actual in &mut step[1..] {
-            *actual = self.find(&self.names, &line.word()?)? as u8;
-            if !line.passes(",") {
-                break;
+        step[0] = number as u8;
+        let mut between = "(";
+        for blank in 0..rule.blanks {
+            let spare = rule.spare.contains(&blank);
+            if spare && jobs == Jobs::LeftOut {
+                step[1 + blank] = 0;
+                continue;
             }
+            line.expect(between)?;
+            between = ",";
+            step[1 + blank] = match spare {
+                true => {
+                    line.expect("job ")?;
+                    let number = line.word()?;
+                    number.parse().map_err(|_| format!("job {number}"))?
+                }
+                false => self.find(&self.names, &line.word()?)? as u8,
+            };
         }
         line.expect(")")?;
         Ok(step)

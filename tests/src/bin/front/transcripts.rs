@@ -8,7 +8,7 @@
 //! -- end
 //! -- text dos.table: table 1\r\n  a file in one line; \r \n \t \\ \xff
 //! -- patch shop.file 2: 11        a byte of a file that is there
-//! -- fill long.table 99: #        a file of 99 times a character
+//! -- fill long.table 99: #        a file of 99 times a text, written as above
 //! $ tugcaphi check shop.file < shop.table
 //! shop.file: accepted             standard output
 //! ! error: ..                     standard error
@@ -140,7 +140,7 @@ fn directive(rest: &str, folder: &Folder) -> Result<Option<Vec<u8>>, String> {
             Ok(Some(content))
         }
         ["fill", name, count] => {
-            let content = value.repeat(number(count)?).into_bytes();
+            let content = unescaped(value).repeat(number(count)?);
             folder.write(name, &content);
             Ok(Some(content))
         }

@@ -5,7 +5,7 @@
 //! its writings on the device. Argument: the seed, on which nothing depends.
 
 use reference::report::{Arguments, Group, Report};
-use reference::scene::{after, said, says_done, step, table, Said, Scene, FILE, LOG};
+use reference::scene::{advises, after, said, says_done, step, table, Said, Scene, FILE, LOG};
 use reference::traced::{may_trace, traced, Ended, Stop, Then};
 use std::fs;
 
@@ -215,7 +215,7 @@ fn fail_each(scene: &Scene, group: &mut Group, way: Way, error: i32) {
             )
         };
         // Before it comes to the file, it may end as the system lets it.
-        let sentence = ended.status == Some(3) && !ended.err.is_empty();
+        let sentence = ended.status == Some(3) && advises(&ended.err);
         match ended.status {
             Some(0) => group.demand(happened && says_done(&ended.out), about),
             _ => group.demand(sentence || !happened, about),

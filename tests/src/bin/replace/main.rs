@@ -1,7 +1,9 @@
 //! `tugcaphi run` among others: killed at random, many runs at once, the lock
-//! held or removed, no room, links and what cannot be replaced. Argument: the
-//! seed.
+//! held or removed, `make` at the same lock, no room, links and what cannot be
+//! replaced. Argument: the seed.
 
+use reference::file::check;
+use reference::generate::{rule, Draft, CREATE_SUBJECT};
 use reference::random::Random;
 use reference::report::{Arguments, Group, Report};
 use reference::scene::{after, said, says_done, step, table, Said, Scene, FILE, LOCK, LOG};
@@ -160,10 +162,9 @@ fn remove_lock(scene: &Scene) {
     thread::sleep(Duration::from_micros(300));
 }
 
-/// A run waits until the lock is released, and says so before.
-fn waits(scene: &Scene, group: &mut Group, release: &dyn Fn()) {
-    let mut child = scene
-        .run(0, &[])
+/// A command waits until the lock is released, and says so before.
+fn waits(group: &mut Group, mut command: Command, release: &dyn Fn()) -> Said {
+    let mut child = command
         .stdout(Stdio::piped())
         .stderr(Stdio::piped())
         .spawn()
@@ -176,10 +177,32 @@ fn waits(scene: &Scene, group: &mut Group, release: &dyn Fn()) {
     let waiting = child.try_wait().is_ok_and(|ended| ended.is_none());
     group.demand(waiting, || "it did not wait".to_string());
     release();
-    let answer = Said::of(child.wait_with_output().expect("a child of ours"));
+    Said::of(child.wait_with_output().expect("a child of ours"))
+}
+
+fn run_waits(scene: &Scene, group: &mut Group, release: &dyn Fn()) {
+    let answer = waits(group, scene.run(0, &[]), release);
     let wanted = after(&table(), 0);
     scene.stands(group, &wanted, b"", "after waiting", &answer);
     group.demand(answer.done(), || format!("after waiting: {answer:?}"));
+}
+
+/// `make` over the file waits for the same lock.
+fn make_waits(scene: &Scene, group: &mut Group) {
+    scene.reset(&table());
+    scene.write("words", b"table 1\nrights own\n");
+    let words = ["make", "words", "-o", FILE, "--force"];
+    let lock = File::create(scene.path(LOCK)).expect("a lock file");
+    lock.lock().expect("a lock");
+    let answer = scene.call(&[&words[..], &["--no-wait"]].concat());
+    let good = answer.stopped("another run is at work") && scene.read(FILE) == table();
+    group.input(good, || format!("make --no-wait: {answer:?}"));
+    let answer = waits(group, scene.command(&words), &|| {
+        lock.unlock().expect("our lock")
+    });
+    let made = answer.status == Some(0) && scene.read(FILE).len() == 1_066;
+    let kept = scene.mode(FILE) == 0o600 && scene.names() == [FILE, "words"];
+    group.input(made && kept, || format!("make, after waiting: {answer:?}"));
 }
 
 /// The lock is held by us: a run waits for it, or says that it does not.
@@ -190,7 +213,7 @@ fn held(scene: &Scene, group: &mut Group) {
     let answer = said(&mut scene.run(0, &["--no-wait"]));
     let good = answer.stopped("another run is at work") && scene.read(FILE) == table();
     group.input(good, || format!("--no-wait: {answer:?}"));
-    waits(scene, group, &|| lock.unlock().expect("our lock"));
+    run_waits(scene, group, &|| lock.unlock().expect("our lock"));
     // The lock file of a process that was killed is held by nobody.
     scene.reset(&table());
     scene.write(LOCK, b"");
@@ -203,7 +226,18 @@ fn held(scene: &Scene, group: &mut Group) {
     let answer = said(&mut scene.run(0, &["--no-wait"]));
     let good = answer.stopped("another run is at work") && scene.read(FILE) == table();
     group.input(good, || format!("--no-wait, the file held: {answer:?}"));
-    waits(scene, group, &|| file.unlock().expect("our lock"));
+    run_waits(scene, group, &|| file.unlock().expect("our lock"));
+}
+
+/// A house file whose length is a whole number of steps.
+fn house_of_steps() -> Vec<u8> {
+    let mut draft = Draft::empty(8);
+    for _ in 0..4 {
+        draft.rules.push(rule(1, &[], &[[CREATE_SUBJECT, 0, 0, 0]]));
+    }
+    let file = draft.file();
+    assert!(file.len().is_multiple_of(5) && check(&file) == 0);
+    file
 }
 
 /// What cannot be replaced is refused with a sentence, and left as it is.
@@ -236,11 +270,15 @@ fn refused_sorts(scene: &Scene, group: &mut Group) {
     }
     fs::remove_file(scene.path("second")).expect("a link of ours");
     scene.write("torn", b"1234567");
+    scene.write("words", b"table 1\nrights own\n\n");
+    scene.write("other", &house_of_steps());
     for (log, because) in [
         ("folder", "a folder"),
         ("pipe", "a pipe"),
         (FILE, "another file"),
         ("torn", "7 bytes"),
+        ("words", "no step"),
+        ("other", "a house file"),
         ("dangling", "a symbolic link that leads to no file"),
         ("no/folder", "folder"),
     ] {
@@ -248,9 +286,11 @@ fn refused_sorts(scene: &Scene, group: &mut Group) {
         let good = answer.stopped(because) && scene.read(FILE) == table();
         group.input(good, || format!("--log {log}: {answer:?}"));
     }
+    let whole = scene.read("words").len() == 20 && scene.read("other") == house_of_steps();
+    group.demand(whole, || "what is no log was written".to_string());
     let mut wanted = before;
     wanted.retain(|name| name != "second");
-    wanted.push("torn".to_string());
+    wanted.extend(["other", "torn", "words"].map(String::from));
     wanted.sort();
     let names = scene.names();
     group.demand(names == wanted, || format!("{names:?}"));
@@ -310,6 +350,9 @@ fn groups(scene: &Scene, report: &mut Report, random: &mut Random) {
         at_once(&Scene::quick("locks"), group, 20, 20, remove_lock)
     });
     report.group("the lock is held", 4, |group| held(scene, group));
+    report.group("make waits for the lock of runs", 2, |group| {
+        make_waits(scene, group)
+    });
     report.group("no room: a limit on the size", 3, |group| {
         room::size_limit(scene, group)
     });
@@ -320,7 +363,7 @@ fn groups(scene: &Scene, report: &mut Report, random: &mut Random) {
     } else {
         println!("no room: a full disk: no file system may be mounted here, left out");
     }
-    report.group("what cannot be replaced", 16, |group| {
+    report.group("what cannot be replaced", 18, |group| {
         refused_sorts(scene, group)
     });
     report.group("links are followed", 1, |group| followed(scene, group));

@@ -5,16 +5,17 @@ use Rattle.cases.specs.Cases.{all}
 use Rattle.cases.proofs.Loops.{all-stop, all-more, all-end}
 use Rattle.protection.specs.Command.{valuesOf}
 use Rattle.protection.specs.Execution.{bounded, actualFits}
+use Rattle.commands.specs.Contents.{meaning}
 use borrow.Author.Needs.{needs}
 use native.Mathlib.Omega.{arith}
 use Rattle.execution.proofs.conditions.actuals_fit.Statement.{statement}
 use Rattle.execution.proofs.conditions.actuals_fit.Tie as tie
 
 abbrev Inv-loop : tie.InvT-loop
-Inv-loop k a b₀ b = (b ≤ 4) × (all (actualFits bounded k (valuesOf a)) (4 - b) b ≡ all (actualFits bounded k (valuesOf a)) 4 0)
+Inv-loop c a b₀ b = (b ≤ 4) × (all (actualFits bounded (meaning c) (valuesOf a)) (4 - b) b ≡ all (actualFits bounded (meaning c) (valuesOf a)) 4 0)
 
 abbrev μ-loop : tie.MeasureT-loop
-μ-loop k a b₀ b = 4 - b
+μ-loop c a b₀ b = 4 - b
 
 loop-holds : tie.Need-loop-holds Inv-loop μ-loop
 loop-holds c = (omega arith, rw sub-zero)
