@@ -28,6 +28,13 @@ on-ne a b x y z p e = simp (ne-eqb a b p) e
 pub on-other : {A : Type 0} (a b k : ℕ) (x y z : A) → a ≡ k → eqb k b ≡ false → x ≡ z → x ≡ pick (eqb a b) y z
 on-other a b k x y z p q e = simp (p, q) e
 
+-- a test whose answer the code holds in a local
+pub on-true : {A : Type 0} (b : Bool) (x y z : A) → b ≡ true → x ≡ y → x ≡ pick b y z
+on-true b x y z p e = simp p e
+
+pub on-false : {A : Type 0} (b : Bool) (x y z : A) → b ≡ false → x ≡ z → x ≡ pick b y z
+on-false b x y z p e = simp p e
+
 -- a test that a callee made, whose answer r the code branched on
 pub on-yes : {A : Type 0} (r b : Bool) (x y z : A) → r ≡ b → r ≡ true → x ≡ y → x ≡ pick b y z
 on-yes r b x y z d p e = simp (sym d ∙ p) e

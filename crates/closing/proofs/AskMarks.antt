@@ -20,7 +20,7 @@ use Rattle.masks.proofs.Told.{has-raised, mark-is}
 use Rattle.commands.specs.Contents.{missing}
 use Rattle.commands.specs.Fits.{Fits}
 use Rattle.commands.specs.declared.Command.{Command}
-use Rattle.execution.proofs.Calls.{fits-wider}
+use Rattle.commands.proofs.Reading.{fits-wider}
 use Rattle.policy.specs.Fits.{PolicyFits}
 use Rattle.policy.specs.declared.Policy.{Policy}
 use Rattle.closing.specs.Asks.{sideOf, onSide, firstOf, secondOf, Asks, AsksMarked, AskedBy}

@@ -8,7 +8,7 @@ use mathlib.Core.Option.{none}
 use native.Mathlib.Omega.{arith}
 use borrow.Author.Tests.{not-true}
 use lib.Bits.{bitOr, bitAnd}
-use lib.Dec.{T, eqb, eqb→eq}
+use lib.Dec.{T, eqb, eqb→eq, ltb}
 use lib.ListN.{getD}
 use Rattle.cases.specs.Cases.{pick, all}
 use Rattle.cases.proofs.Bools.{and-left, and-right, or-cases, holds, is-true, is-false}
@@ -25,10 +25,12 @@ use Rattle.matrix.specs.Matrices.{stateOf}
 use Rattle.matrix.specs.declared.Matrix.{Matrix}
 use Rattle.masks.proofs.Digits.{has-and, has-or, has-not}
 use Rattle.search.specs.Narrowing.{Says}
-use Rattle.commands.specs.Contents.{missing, conditionOf, operationAt, modelOf, meaning}
+use Rattle.commands.specs.Contents.{missing, conditionOf, operationAt, meaning}
+use Rattle.commands.specs.Steps.{stepRead}
+use Rattle.commands.proofs.Reading.{modelBy}
 use Rattle.commands.specs.declared.Command.{Command}
-use Rattle.commands.specs.declared.Operation.{Operation}
-use Rattle.commands.specs.declared.Operation.the-variants.{Enter, Delete, CreateSubject, CreateObject, DestroySubject, DestroyObject}
+use Rattle.commands.specs.declared.StepRead.{StepRead}
+use Rattle.commands.specs.declared.StepRead.the-variants.{Enter, Delete, CreateSubject, CreateObject, DestroySubject, DestroyObject, Refused}
 use Rattle.queries.specs.Useful.{doable, namesOfPlace, Tried}
 use Rattle.queries.proofs.Goodness.{doable-holds, hold-all}
 use Rattle.queries.proofs.Shapes.{operation-is}
@@ -118,9 +120,14 @@ unheld c m a k q A e = is-false (doable (meaning c) m a) (λ t.
     subst T gone held)
 
 -- on the cell (s, o) its operation's parameters have these names
-on-cell : (b : Bool) (r s o : ℕ) (c : Command) (a : Actuals) → T (pick b (entersAt r s o a (modelOf (operationAt c 0))) (deletesAt r s o a (modelOf (operationAt c 0)))) → (a (firstOf c) ≡ s) × (a (secondOf c) ≡ o)
-on-cell b r s o c a = go b (eqb (getD (c .operation) 0 0) 1) (eqb (getD (c .operation) 0 0) 2) (eqb (getD (c .operation) 0 0) 3) (eqb (getD (c .operation) 0 0) 4) (eqb (getD (c .operation) 0 0) 5)
+on-cell : (b : Bool) (r s o : ℕ) (c : Command) (a : Actuals) → T (pick b (entersAt r s o a (modelBy (operationAt c 0))) (deletesAt r s o a (modelBy (operationAt c 0)))) → (a (firstOf c) ≡ s) × (a (secondOf c) ≡ o)
+unfolding stepRead
+on-cell b r s o c a =
+    go b (eqb kind 1) (eqb kind 2) (eqb kind 3) (eqb kind 4) (eqb kind 5) (eqb kind 6) ((ltb q rights && ltb x (c .parameters)) && ltb y (c .parameters)) ((eqb q 0 && ltb x (c .parameters)) && eqb y 0)
   where
+    kind : ℕ
+    kind = getD (c .operation) 0 0
+
     q : ℕ
     q = getD (c .operation) 1 0
 
@@ -130,33 +137,43 @@ on-cell b r s o c a = go b (eqb (getD (c .operation) 0 0) 1) (eqb (getD (c .oper
     y : ℕ
     y = secondOf c
 
-    op : (b1 b2 b3 b4 b5 : Bool) → Operation
-    op b1 b2 b3 b4 b5 = pick b1 (Enter q x y) (pick b2 (Delete q x y) (pick b3 (CreateSubject x) (pick b4 (CreateObject x) (pick b5 (DestroySubject x) (DestroyObject x)))))
-
     named : T ((eqb q r && eqb (a x) s) && eqb (a y) o) → (a x ≡ s) × (a y ≡ o)
     named t =
         (eqb→eq (a x) s (and-right (eqb q r) (eqb (a x) s) (and-left (eqb q r && eqb (a x) s) (eqb (a y) o) t)), eqb→eq (a y) o (and-right (eqb q r && eqb (a x) s) (eqb (a y) o) t))
 
-    go : (b b1 b2 b3 b4 b5 : Bool) → T (pick b (entersAt r s o a (modelOf (op b1 b2 b3 b4 b5))) (deletesAt r s o a (modelOf (op b1 b2 b3 b4 b5)))) → (a x ≡ s) × (a y ≡ o)
-    go true true b2 b3 b4 b5 t = named t
-    go false true b2 b3 b4 b5 t = absurd t
-    go true false true b3 b4 b5 t = absurd t
-    go false false true b3 b4 b5 t = named t
-    go true false false true b4 b5 t = absurd t
-    go false false false true b4 b5 t = absurd t
-    go true false false false true b5 t = absurd t
-    go false false false false true b5 t = absurd t
-    go true false false false false true t = absurd t
-    go false false false false false true t = absurd t
-    go true false false false false false t = absurd t
-    go false false false false false false t = absurd t
+    Touches : Bool → StepRead → Type 0
+    Touches b w = T (pick b (entersAt r s o a (modelBy w)) (deletesAt r s o a (modelBy w)))
+
+    by : (b : Bool) (w : StepRead) → (T (entersAt r s o a (modelBy w)) → (a x ≡ s) × (a y ≡ o)) → (T (deletesAt r s o a (modelBy w)) → (a x ≡ s) × (a y ≡ o)) → Touches b w → (a x ≡ s) × (a y ≡ o)
+    by true w f g t = f t
+    by false w f g t = g t
+
+    none : (b : Bool) (w : StepRead) → (T (entersAt r s o a (modelBy w)) → ⊥) → (T (deletesAt r s o a (modelBy w)) → ⊥) → Touches b w → (a x ≡ s) × (a y ≡ o)
+    none b w f g = by b w (λ t. absurd (f t)) (λ t. absurd (g t))
+
+    go : (b a₁ a₂ a₃ a₄ a₅ a₆ t u : Bool)
+        → Touches b (pick a₁ (pick t (Enter q x y) Refused) (pick a₂ (pick t (Delete q x y) Refused) (pick a₃ (pick u (CreateSubject x) Refused) (pick a₄ (pick u (CreateObject x) Refused)
+        (pick a₅ (pick u (DestroySubject x) Refused) (pick a₆ (pick u (DestroyObject x) Refused) Refused)))))) → (a x ≡ s) × (a y ≡ o)
+    go b true a₂ a₃ a₄ a₅ a₆ true u = by b (Enter q x y) named (λ t. absurd t)
+    go b true a₂ a₃ a₄ a₅ a₆ false u = none b Refused (λ t. t) (λ t. t)
+    go b false true a₃ a₄ a₅ a₆ true u = by b (Delete q x y) (λ t. absurd t) named
+    go b false true a₃ a₄ a₅ a₆ false u = none b Refused (λ t. t) (λ t. t)
+    go b false false true a₄ a₅ a₆ t true = none b (CreateSubject x) (λ t. t) (λ t. t)
+    go b false false true a₄ a₅ a₆ t false = none b Refused (λ t. t) (λ t. t)
+    go b false false false true a₅ a₆ t true = none b (CreateObject x) (λ t. t) (λ t. t)
+    go b false false false true a₅ a₆ t false = none b Refused (λ t. t) (λ t. t)
+    go b false false false false true a₆ t true = none b (DestroySubject x) (λ t. t) (λ t. t)
+    go b false false false false true a₆ t false = none b Refused (λ t. t) (λ t. t)
+    go b false false false false false true t true = none b (DestroyObject x) (λ t. t) (λ t. t)
+    go b false false false false false true t false = none b Refused (λ t. t) (λ t. t)
+    go b false false false false false false t u = none b Refused (λ t. t) (λ t. t)
 
 asked-lacks : (b : Bool) (m : State) (r s o n i : ℕ) (c : Command) → Tried c n → (k q : ℕ) → Asks c k q → m .cell (onSide (k / 2) s o) (onSide (k % 2) s o) q ≡ false
     → touchingIn b m r s o n i (meaning c) ≡ none
 asked-lacks b m r s o n i c H k q A e = never-touching b m r s o n i (meaning c) (λ p.
     let a = namesOfPlace (meaning c) n p in
     ap (λ (w : ModelOperation). elim (pick b (entersAt r s o a w) (deletesAt r s o a w)) [ true ↦ doable (meaning c) m a | false ↦ false ]) (operation-is c n H)
-    ∙ go a (pick b (entersAt r s o a (modelOf (operationAt c 0))) (deletesAt r s o a (modelOf (operationAt c 0)))) (on-cell b r s o c a))
+    ∙ go a (pick b (entersAt r s o a (modelBy (operationAt c 0))) (deletesAt r s o a (modelBy (operationAt c 0)))) (on-cell b r s o c a))
   where
     go : (a : Actuals) (u : Bool) → (T u → (a (firstOf c) ≡ s) × (a (secondOf c) ≡ o)) → _≡_ {A = Bool} (elim u [ true ↦ doable (meaning c) m a | false ↦ false ]) false
     go a true f = unheld c m a k q A (ap₂ (λ (u v : ℕ). m .cell (onSide (k / 2) u v) (onSide (k % 2) u v) q) (f tt .0) (f tt .1) ∙ e)

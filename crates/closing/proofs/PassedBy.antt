@@ -14,12 +14,14 @@ use Rattle.protection.specs.Limits.{names, rights}
 use Rattle.protection.specs.State.{State}
 use Rattle.protection.specs.Command.{Operation as ModelOperation, Command as ModelCommand, Actuals}
 use Rattle.protection.specs.Judge.{firstIn, placesOf, callAt, deletesAt, entersAt}
-use Rattle.commands.specs.Contents.{missing, operationAt, modelOf, meaning}
+use Rattle.commands.specs.Contents.{missing, operationAt, stepOf, meaning}
 use Rattle.commands.specs.Fits.{Fits}
 use Rattle.commands.specs.declared.Command.{Command}
 use Rattle.commands.specs.declared.Operation.{Operation}
-use Rattle.commands.specs.declared.Operation.the-variants.{Enter, Delete, CreateSubject, CreateObject, DestroySubject, DestroyObject}
-use Rattle.execution.proofs.Calls.{fits-wider}
+use Rattle.commands.specs.declared.Operation.the-variants as code
+use Rattle.commands.specs.declared.StepRead.{StepRead}
+use Rattle.commands.specs.declared.StepRead.the-variants.{Enter, Delete, CreateSubject, CreateObject, DestroySubject, DestroyObject, Refused}
+use Rattle.commands.proofs.Reading.{fits-wider, modelBy}
 use Rattle.queries.specs.Useful.{doable, namesOfPlace, touchesAt, Tried}
 use Rattle.queries.proofs.Shapes.{operation-is}
 use Rattle.queries.proofs.Closing.{none-at-all}
@@ -30,11 +32,11 @@ use Rattle.visits.specs.Engine.{SingleSteps}
 use Rattle.closing.specs.Closing.{concernsRight, concernsIn, ConcernedBy, placeTouching, touchingIn, Covers}
 
 -- ---- for `concerns`
-pub concerns-enter : (enters : Bool) (r q x y : ℕ) (op : Operation) (b : Bool) → op ≡ Enter q x y → enters ≡ true → b ≡ eqb q r → b ≡ concernsRight enters r op
-concerns-enter enters r q x y op b f e d = d ∙ sym (ap₂ (λ (u : Bool) (w : Operation). concernsRight u r w) e f)
+pub concerns-enter : (enters : Bool) (r q x y : ℕ) (op : Operation) (b : Bool) → op ≡ code.Enter q x y → enters ≡ true → b ≡ eqb q r → b ≡ concernsRight enters r (stepOf op)
+concerns-enter enters r q x y op b f e d = d ∙ sym (ap₂ (λ (u : Bool) (w : Operation). concernsRight u r (stepOf w)) e f)
 
-pub concerns-delete : (enters : Bool) (r q x y : ℕ) (op : Operation) (b : Bool) → op ≡ Delete q x y → enters ≡ false → b ≡ eqb q r → b ≡ concernsRight enters r op
-concerns-delete enters r q x y op b f e d = d ∙ sym (ap₂ (λ (u : Bool) (w : Operation). concernsRight u r w) e f)
+pub concerns-delete : (enters : Bool) (r q x y : ℕ) (op : Operation) (b : Bool) → op ≡ code.Delete q x y → enters ≡ false → b ≡ eqb q r → b ≡ concernsRight enters r (stepOf op)
+concerns-delete enters r q x y op b f e d = d ∙ sym (ap₂ (λ (u : Bool) (w : Operation). concernsRight u r (stepOf w)) e f)
 
 -- ---- a command of a policy
 pub command-tried : (p : Policy) → PolicyFits p → SingleSteps p → (n : ℕ) → n ≤ names → (i : ℕ) → i < p .commands → (c : Command) → c ≡ getD (p .command) i missing → Tried c n
@@ -62,7 +64,12 @@ module _ (p : Policy) (enters : Bool) (r : ℕ) where
     pub concerning-number : i < 32
     concerning-number = omega (arith, K .number, K .fits .few-commands)
 
-    module _ (c : Command) (e : c ≡ getD (p .command) i missing) (op : Operation) (f : op ≡ operationAt c 0) (b : Bool) (d : b ≡ concernsRight enters r op) where
+    pub concerning-fits : (c : Command) → c ≡ getD (p .command) i missing → Fits rights c × (0 < c .operations)
+    concerning-fits c e =
+        let F = fits-wider (p .rights) rights (getD (p .command) i missing) (K .fits .few-rights) (K .fits .commands-fit i (omega (arith, K .number))) in
+        (subst (Fits rights) (sym e) F, subst (λ (d : Command). 0 < d .operations) (sym e) (F .some-operation))
+
+    module _ (c : Command) (e : c ≡ getD (p .command) i missing) (op : Operation) (f : stepOf op ≡ operationAt c 0) (b : Bool) (d : b ≡ concernsRight enters r (stepOf op)) where
       told : b ≡ concernsIn p enters r i
       unfolding concernsIn
       told = d ∙ ap (concernsRight enters r) (f ∙ ap (λ (w : Command). operationAt w 0) e)
@@ -77,7 +84,7 @@ module _ (p : Policy) (enters : Bool) (r : ℕ) where
       concerning-no t mask' z = more mask' (filled-more (concernsIn p enters r) mask i mask' b (K .filled) told (z ∙ marked-no mask i b t))
 
 -- ---- a command that is passed by
-untouched : (b : Bool) (r s o : ℕ) (op : Operation) → concernsRight b r op ≡ false → (a : Actuals) → pick b (entersAt r s o a (modelOf op)) (deletesAt r s o a (modelOf op)) ≡ false
+untouched : (b : Bool) (r s o : ℕ) (op : StepRead) → concernsRight b r op ≡ false → (a : Actuals) → pick b (entersAt r s o a (modelBy op)) (deletesAt r s o a (modelBy op)) ≡ false
 untouched true r s o (Enter q x y) e a = ap (λ (u : Bool). (u && eqb (a x) s) && eqb (a y) o) e
 untouched false r s o (Enter q x y) e a = refl
 untouched true r s o (Delete q x y) e a = refl
@@ -90,6 +97,8 @@ untouched true r s o (DestroySubject x) e a = refl
 untouched false r s o (DestroySubject x) e a = refl
 untouched true r s o (DestroyObject x) e a = refl
 untouched false r s o (DestroyObject x) e a = refl
+untouched true r s o Refused e a = refl
+untouched false r s o Refused e a = refl
 
 -- where no place qualifies, there is no call
 pub never-touching : (b : Bool) (m : State) (r s o n i : ℕ) (C : ModelCommand) → ((p : ℕ) → touchesAt b m r s o C n p ≡ false) → touchingIn b m r s o n i C ≡ none

@@ -15,8 +15,8 @@ use Rattle.protection.specs.Judge.{firstIn, placesOf, operationIn, fourOf, call
 use Rattle.matrix.specs.declared.Matrix.{Matrix}
 use Rattle.masks.specs.declared.Tables.{Tables}
 use Rattle.commands.specs.Contents.{missing, operationAt, meaning}
-use Rattle.commands.specs.declared.Operation.{Operation}
-use Rattle.commands.specs.declared.Operation.the-variants.{Enter, Delete, CreateSubject, CreateObject, DestroySubject, DestroyObject}
+use Rattle.commands.specs.declared.StepRead.{StepRead}
+use Rattle.commands.specs.declared.StepRead.the-variants.{Enter, Delete, CreateSubject, CreateObject, DestroySubject, DestroyObject, Refused}
 use Rattle.queries.specs.Useful.{touchesAt}
 use Rattle.queries.specs.Sought.{Seen}
 use Rattle.policy.specs.Fits.{PolicyFits}
@@ -34,13 +34,14 @@ pairOf x = both (foundCall (x .taken)) (foundCall (x .returned))
 
 -- ---- which commands are looked through
 -- the operation enters r into some cell, or deletes it from one
-abbrev pub concernsRight : Bool → ℕ → Operation → Bool
+abbrev pub concernsRight : Bool → ℕ → StepRead → Bool
 concernsRight enters r (Enter q x y) = pick enters (eqb q r) false
 concernsRight enters r (Delete q x y) = pick enters false (eqb q r)
 concernsRight enters r (CreateSubject x) = false
 concernsRight enters r (CreateObject x) = false
 concernsRight enters r (DestroySubject x) = false
 concernsRight enters r (DestroyObject x) = false
+concernsRight enters r Refused = false
 
 unfoldable pub concernsIn : Policy → Bool → ℕ → ℕ → Bool
 concernsIn p enters r i = concernsRight enters r (operationAt (getD (p .command) i missing) 0)

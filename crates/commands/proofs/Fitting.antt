@@ -11,10 +11,12 @@ use lib.Seq.{length-take-le, getD-take, getD-drop}
 use Rattle.cases.specs.Cases.{pick, all}
 use Rattle.cases.proofs.Loops.{all-at}
 use Rattle.layout.specs.File.{byte}
-use Rattle.commands.specs.Refusals.{conditionFits, conditionFitsAt, operationFits, operationFitsAt, commandRefusal}
+use Rattle.commands.specs.Steps.{stepRead}
+use Rattle.commands.specs.Refusals.{conditionFits, conditionFitsAt, operationFits, operationFitsAt}
 use Rattle.commands.specs.Contents.{padded, commandOf}
-use Rattle.commands.specs.Fits.{Fits}
+use Rattle.commands.specs.Fits.{Reads, Fits}
 use Rattle.commands.proofs.Accepted.{CommandFits}
+use Rattle.commands.proofs.Reading.{read-operation}
 
 -- ---- tests that held
 both : (a b : Bool) → pick a b false ≡ true → (a ≡ true) × (b ≡ true)
@@ -32,27 +34,6 @@ module _ (g : ℕ) (p : List ℕ) (i : ℕ) where
       let t1 = both (ltb (byte p i) g) _ e in
       let t2 = both (ltb (byte p (i + 1)) (byte p 0)) _ (t1 .1) in
       (ltb-true (byte p i) g (t1 .0), ltb-true (byte p (i + 1)) (byte p 0) (t2 .0), ltb-true (byte p (i + 2)) (byte p 0) (t2 .1))
-
-  operation-facts : 1 ≤ g → operationFits g p i ≡ true → (byte p (i + 1) < g) × (byte p (i + 2) < byte p 0) × (byte p (i + 3) < byte p 0)
-  unfolding operationFits
-  operation-facts lg e =
-      let t1 = none (ltb (byte p i) 1) _ e in
-      let t2 = none (ltb 6 (byte p i)) _ t1 in
-      let t3 = both (ltb (byte p (i + 2)) (byte p 0)) _ t2 in
-      let first : byte p (i + 2) < byte p 0 = ltb-true (byte p (i + 2)) (byte p 0) (t3 .0) in
-      go first (ltb (byte p i) 3) (t3 .1)
-    where
-      go : byte p (i + 2) < byte p 0 → (b : Bool)
-          → pick b (pick (ltb (byte p (i + 1)) g) (ltb (byte p (i + 3)) (byte p 0)) false) (pick (eqb (byte p (i + 1)) 0) (eqb (byte p (i + 3)) 0) false) ≡ true
-          → (byte p (i + 1) < g) × (byte p (i + 2) < byte p 0) × (byte p (i + 3) < byte p 0)
-      go first true e =
-          let t = both (ltb (byte p (i + 1)) g) _ e in
-          (ltb-true (byte p (i + 1)) g (t .0), first, ltb-true (byte p (i + 3)) (byte p 0) (t .1))
-      go first false e =
-          let t = both (eqb (byte p (i + 1)) 0) _ e in
-          let r : byte p (i + 1) ≡ 0 = eqb-true (byte p (i + 1)) 0 (t .0) in
-          let s : byte p (i + 3) ≡ 0 = eqb-true (byte p (i + 3)) 0 (t .1) in
-          (omega arith, first, omega arith)
 
 -- ---- bytes of the section in the command's arrays
 part-at : (p : List ℕ) (size from n i : ℕ) → from + n ≤ length p → i < n → getD (padded size (take n (drop from p))) i 0 ≡ byte p (from + i)
@@ -73,31 +54,35 @@ module _ (g : ℕ) (p : List ℕ) (A : CommandFits g p) where
   condition-at : (j : ℕ) → j < byte p 1 → (byte p (3 + 3 * j) < g) × (byte p (3 + 3 * j + 1) < byte p 0) × (byte p (3 + 3 * j + 2) < byte p 0)
   condition-at j l = condition-facts g p (3 + 3 * j) (all-at (conditionFitsAt g p) (byte p 1) 0 (A .conditions-fit) j (omega arith) (omega arith))
 
-  module _ (lg : 1 ≤ g) where
-    abbrev at : ℕ → ℕ
-    at j = 3 + 3 * byte p 1 + 4 * j
+  operation-at : (j : ℕ) → j < byte p 2 → Reads g (commandOf p) j
+  unfolding operationFits commandOf
+  operation-at j l =
+      let at = 3 + 3 * byte p 1 + 4 * j in
+      let R = read-operation (stepRead (byte p 0) g (byte p at) (byte p (at + 1)) (byte p (at + 2)) (byte p (at + 3)))
+      (all-at (operationFitsAt g p (3 + 3 * byte p 1)) (byte p 2) 0 (A .operations-fit) j (omega arith) (omega arith)) in
+      record {
+        operation = R .0;
+        is = rw (in-operation (4 * j) (omega arith), step 1 (omega arith), step 2 (omega arith), step 3 (omega arith)) (R .1);
+      }
+    where
+      step : (i : ℕ) → i < 4 → getD (commandOf p .operation) (4 * j + i) 0 ≡ byte p (3 + 3 * byte p 1 + 4 * j + i)
+      step i h =
+          let z : 3 + 3 * byte p 1 + (4 * j + i) ≡ 3 + 3 * byte p 1 + 4 * j + i = omega arith in
+          in-operation (4 * j + i) (omega arith) ∙ ap (byte p) z
 
-    operation-at : (j : ℕ) → j < byte p 2 → (byte p (at j + 1) < g) × (byte p (at j + 2) < byte p 0) × (byte p (at j + 3) < byte p 0)
-    operation-at j l = operation-facts g p (at j) lg (all-at (operationFitsAt g p (3 + 3 * byte p 1)) (byte p 2) 0 (A .operations-fit) j (omega arith) (omega arith))
-
-    pub command-fits : Fits g (commandOf p)
-    unfolding commandOf
-    command-fits = record {
-      some-parameter = A .some-parameter;
-      few-parameters = A .few-parameters;
-      few-conditions = A .few-conditions;
-      some-operation = A .some-operation;
-      few-operations = A .few-operations;
-      condition-right = λ j l. below (3 * j) g (in-condition (3 * j) (omega arith)) (condition-at j l .0);
-      condition-subject = λ j l. below (3 * j + 1) (byte p 0) (in-condition (3 * j + 1) (omega arith) ∙ ap (byte p) (omega arith)) (condition-at j l .1);
-      condition-object = λ j l. below (3 * j + 2) (byte p 0) (in-condition (3 * j + 2) (omega arith) ∙ ap (byte p) (omega arith)) (condition-at j l .2);
-      operation-right = λ j l. reach (4 * j + 1) g (in-operation (4 * j + 1) (omega arith) ∙ ap (byte p) (omega arith)) (operation-at j l .0);
-      operation-first = λ j l. reach (4 * j + 2) (byte p 0) (in-operation (4 * j + 2) (omega arith) ∙ ap (byte p) (omega arith)) (operation-at j l .1);
-      operation-second = λ j l. reach (4 * j + 3) (byte p 0) (in-operation (4 * j + 3) (omega arith) ∙ ap (byte p) (omega arith)) (operation-at j l .2);
-    }
-      where
-        below : (i b : ℕ) {x : ℕ} → getD (commandOf p .condition) i 0 ≡ x → x < b → getD (commandOf p .condition) i 0 < b
-        below i b e l = rw e l
-
-        reach : (i b : ℕ) {x : ℕ} → getD (commandOf p .operation) i 0 ≡ x → x < b → getD (commandOf p .operation) i 0 < b
-        reach i b e l = rw e l
+  pub command-fits : Fits g (commandOf p)
+  unfolding commandOf
+  command-fits = record {
+    some-parameter = A .some-parameter;
+    few-parameters = A .few-parameters;
+    few-conditions = A .few-conditions;
+    some-operation = A .some-operation;
+    few-operations = A .few-operations;
+    condition-right = λ j l. below (3 * j) g (in-condition (3 * j) (omega arith)) (condition-at j l .0);
+    condition-subject = λ j l. below (3 * j + 1) (byte p 0) (in-condition (3 * j + 1) (omega arith) ∙ ap (byte p) (omega arith)) (condition-at j l .1);
+    condition-object = λ j l. below (3 * j + 2) (byte p 0) (in-condition (3 * j + 2) (omega arith) ∙ ap (byte p) (omega arith)) (condition-at j l .2);
+    operation-read = operation-at;
+  }
+    where
+      below : (i b : ℕ) {x : ℕ} → getD (commandOf p .condition) i 0 ≡ x → x < b → getD (commandOf p .condition) i 0 < b
+      below i b e l = rw e l

@@ -1,4 +1,5 @@
 pub mod Accepted
 pub mod Contents
+pub mod Reading
 pub mod Names
 pub mod Fitting

@@ -1,15 +1,18 @@
 -- What a rule's section says: the command as the reader hands it out, and the machine's command that it stands for.
-use Prim.Native.Nat.{ℕ, _+_, _*_, _-_}
-use mathlib.Core.List.{List, [], _++_}
+use Prim.Native.Nat.{ℕ, zero, suc, _+_, _*_, _-_}
+use mathlib.Core.List.{List, [], _∷_, _++_}
 use lib.ListN.{length, getD, take, drop, replicate}
 use lib.Dec.{eqb}
 use Rattle.cases.specs.Cases.{pick, tabulate}
-use Rattle.protection.specs.Limits.{conditions, operations}
+use Rattle.protection.specs.Limits.{rights, conditions, operations}
 use Rattle.protection.specs.Command.{Condition, Operation, enter, delete, createSubject, createObject, destroySubject, destroyObject, Command as ModelCommand}
 use Rattle.layout.specs.File.{byte}
+use Rattle.commands.specs.Steps.{stepRead}
 use Rattle.commands.specs.Refusals.{commandRefusal}
 use Rattle.commands.specs.declared.Command.{Command}
 use Rattle.commands.specs.declared.CommandRead.{CommandRead}
+use Rattle.commands.specs.declared.StepRead.{StepRead}
+use Rattle.commands.specs.declared.StepRead.the-variants as read
 use Rattle.commands.specs.declared.Operation.{Operation as CodeOperation}
 use Rattle.commands.specs.declared.Operation.the-variants.{Enter, Delete, CreateSubject, CreateObject, DestroySubject, DestroyObject}
 
@@ -43,19 +46,28 @@ commandRead g p = record { refused = commandRefusal g p; command = pick (eqb (co
 abbrev pub conditionOf : Command → ℕ → Condition
 conditionOf c j = record { right = getD (c .condition) (3 * j) 0; subject = getD (c .condition) (3 * j + 1) 0; object = getD (c .condition) (3 * j + 2) 0 }
 
--- "Kinds: 1 enter, 2 delete, 3 create subject, 4 create object, 5 destroy subject, 6 destroy object."
-abbrev pub operationBy : ℕ → ℕ → ℕ → ℕ → CodeOperation
-operationBy kind q s o =
-    pick (eqb kind 1) (Enter q s o)
-    (pick (eqb kind 2) (Delete q s o)
-    (pick (eqb kind 3) (CreateSubject s)
-    (pick (eqb kind 4) (CreateObject s)
-    (pick (eqb kind 5) (DestroySubject s)
-    (DestroyObject s)))))
+-- "steps of 4 bytes (kind, right, first blank, second blank)": what the reader says of step j, in a file of g rights
+abbrev pub stepIn : ℕ → Command → ℕ → StepRead
+stepIn g c j = stepRead (c .parameters) g (getD (c .operation) (4 * j) 0) (getD (c .operation) (4 * j + 1) 0) (getD (c .operation) (4 * j + 2) 0) (getD (c .operation) (4 * j + 3) 0)
 
--- "steps of 4 bytes (kind, right, first blank, second blank)"
-abbrev pub operationAt : Command → ℕ → CodeOperation
-operationAt c j = operationBy (getD (c .operation) (4 * j) 0) (getD (c .operation) (4 * j + 1) 0) (getD (c .operation) (4 * j + 2) 0) (getD (c .operation) (4 * j + 3) 0)
+-- of a command that was read, in any file: its rights are below g, and so below the limit
+abbrev pub operationAt : Command → ℕ → StepRead
+operationAt c j = stepIn rights c j
+
+-- the machine's operation that the reader says, if it refuses none
+abbrev pub operationsOf : StepRead → List Operation
+operationsOf (read.Enter q s o) = enter q s o ∷ []
+operationsOf (read.Delete q s o) = delete q s o ∷ []
+operationsOf (read.CreateSubject s) = createSubject s ∷ []
+operationsOf (read.CreateObject o) = createObject o ∷ []
+operationsOf (read.DestroySubject s) = destroySubject s ∷ []
+operationsOf (read.DestroyObject o) = destroyObject o ∷ []
+operationsOf read.Refused = []
+
+-- those of the n steps from number j on
+abbrev pub operationsFrom : Command → ℕ → ℕ → List Operation
+operationsFrom c zero j = []
+operationsFrom c (suc n) j = operationsOf (operationAt c j) ++ operationsFrom c n (suc j)
 
 -- the enum `Operation`, case by case
 abbrev pub modelOf : CodeOperation → Operation
@@ -66,8 +78,14 @@ modelOf (CreateObject o) = createObject o
 modelOf (DestroySubject s) = destroySubject s
 modelOf (DestroyObject o) = destroyObject o
 
-abbrev pub operationOf : Command → ℕ → Operation
-operationOf c j = modelOf (operationAt c j)
+-- what the reader says where it says this operation
+abbrev pub stepOf : CodeOperation → StepRead
+stepOf (Enter q s o) = read.Enter q s o
+stepOf (Delete q s o) = read.Delete q s o
+stepOf (CreateSubject s) = read.CreateSubject s
+stepOf (CreateObject o) = read.CreateObject o
+stepOf (DestroySubject s) = read.DestroySubject s
+stepOf (DestroyObject o) = read.DestroyObject o
 
 abbrev pub meaning : Command → ModelCommand
-meaning c = record { parameters = c .parameters; conditions = tabulate (conditionOf c) (c .conditions) 0; operations = tabulate (operationOf c) (c .operations) 0 }
+meaning c = record { parameters = c .parameters; conditions = tabulate (conditionOf c) (c .conditions) 0; operations = operationsFrom c (c .operations) 0 }

@@ -1,8 +1,16 @@
 -- A command as an accepted file with g rights has it: what the functions over a command ask of it.
 use Prim.Native.Nat.{ℕ, _+_, _*_, _≤_, _<_}
+use mathlib.Core.Path.{_≡_}
 use lib.ListN.{getD}
 use Rattle.protection.specs.Limits.{parameters, conditions, operations}
+use Rattle.commands.specs.Contents.{stepIn, stepOf}
 use Rattle.commands.specs.declared.Command.{Command}
+use Rattle.commands.specs.declared.Operation.{Operation}
+
+-- step j is not refused: the reader says an operation
+pub record Reads (g : ℕ) (c : Command) (j : ℕ) : Type 0 where
+  pub operation : Operation
+  pub is : stepIn g c j ≡ stepOf operation
 
 pub record Fits (g : ℕ) (c : Command) : Type 0 where
   pub some-parameter : 1 ≤ c .parameters
@@ -13,6 +21,4 @@ pub record Fits (g : ℕ) (c : Command) : Type 0 where
   pub condition-right : (j : ℕ) → j < c .conditions → getD (c .condition) (3 * j) 0 < g
   pub condition-subject : (j : ℕ) → j < c .conditions → getD (c .condition) (3 * j + 1) 0 < c .parameters
   pub condition-object : (j : ℕ) → j < c .conditions → getD (c .condition) (3 * j + 2) 0 < c .parameters
-  pub operation-right : (j : ℕ) → j < c .operations → getD (c .operation) (4 * j + 1) 0 < g
-  pub operation-first : (j : ℕ) → j < c .operations → getD (c .operation) (4 * j + 2) 0 < c .parameters
-  pub operation-second : (j : ℕ) → j < c .operations → getD (c .operation) (4 * j + 3) 0 < c .parameters
+  pub operation-read : (j : ℕ) → j < c .operations → Reads g c j

@@ -7,6 +7,7 @@ use lib.Dec.{ltb, eqb}
 use Rattle.cases.specs.Cases.{pick, all}
 use Rattle.protection.specs.Limits.{parameters, conditions, operations}
 use Rattle.layout.specs.File.{byte}
+use Rattle.commands.specs.Steps.{stepRead, isRead}
 
 -- ---- a rule's section p, with g rights: "Byte 0: blanks k, 1 to 4. Byte 1: conditions c, 0 to 4. Byte 2: steps m, 1 to 6."
 -- "9 a right from g on, a blank from k on": a condition at place i
@@ -15,14 +16,7 @@ conditionFits g p i = pick (ltb (byte p i) g) (pick (ltb (byte p (i + 1)) (byte 
 
 -- ".. a step kind not 1 to 6, or right or second blank not 0 in kinds 3 to 6": a step at place i
 unfoldable pub operationFits : ℕ → List ℕ → ℕ → Bool
-operationFits g p i =
-    pick (ltb (byte p i) 1) false
-    (pick (ltb 6 (byte p i)) false
-    (pick (ltb (byte p (i + 2)) (byte p 0))
-    (pick (ltb (byte p i) 3)
-    (pick (ltb (byte p (i + 1)) g) (ltb (byte p (i + 3)) (byte p 0)) false)
-    (pick (eqb (byte p (i + 1)) 0) (eqb (byte p (i + 3)) 0) false))
-    false))
+operationFits g p i = isRead (stepRead (byte p 0) g (byte p i) (byte p (i + 1)) (byte p (i + 2)) (byte p (i + 3)))
 
 -- "Then c conditions of 3 bytes .., then m steps of 4 bytes": condition number j, and step number j of those from a place on
 abbrev pub conditionFitsAt : ℕ → List ℕ → ℕ → Bool

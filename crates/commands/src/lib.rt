@@ -1,14 +1,17 @@
 // A command (document 01: a rule) and its reader.
 ghost use mathlib.Core.Path.{_≡_};
+ghost use mathlib.Core.Logic.{_⊎_};
 ghost use Prim.Native.Nat.{_+_, _*_, _≤_, _<_};
 ghost use lib.ListN.{length, take, drop};
-ghost use Rattle.protection.specs.Limits.{conditions, operations};
+ghost use Rattle.protection.specs.Limits.{rights, conditions, operations};
 ghost use Rattle.cases.specs.Cases.{all, tabulate};
-ghost use mathlib.Core.Bool.{_||_};
-ghost use Rattle.protection.specs.Command.{inConditions, inOperation, inOperations, named};
+ghost use Rattle.protection.specs.Command.{inConditions, inOperations, named};
 ghost use Rattle.layout.specs.File.{byte};
-ghost use Rattle.commands.specs.Refusals.{conditionFits, conditionFitsAt, operationFits, operationFitsAt, commandRefusal};
-ghost use Rattle.commands.specs.Contents.{padded, noCommand, commandOf, commandRead, conditionOf, operationAt, operationOf, modelOf, meaning};
+ghost use Rattle.commands.specs.Refusals.{conditionFits, conditionFitsAt, operationFitsAt, commandRefusal};
+ghost use Rattle.commands.specs.Steps.{onCell, onName, isRead};
+ghost use Rattle.commands.specs.Fits.{Fits};
+ghost use Rattle.commands.specs.Contents.{padded, noCommand, commandOf, commandRead, conditionOf, operationAt, stepOf, operationsOf, operationsFrom, meaning};
+use matrix::Matrix;
 
 // How many parameters, conditions and operations there are, and their bytes as in the file: 3 for a condition, 4 for an operation.
 pub struct Command {
@@ -75,40 +78,116 @@ fn conditions_fit(part: &[u8], g: u8, count: usize) -> bool
     true
 }
 
-// The operation at a place of the section is one of the six, over a right below g and parameters of the command.
-fn operation_fits(part: &[u8], g: u8, at: usize) -> bool
-    requires { ⌜ at + 4 ≤ length (now part) ⌝ }
-    ensures { λ r. ⌜ r ≡ operationFits g (now (part .entry)) at ⌝ }
-{
-    let k = part[0];
-    let kind = part[at];
-    if kind < 1 {
-        return false;
-    }
-    if 6 < kind {
-        return false;
-    }
-    if part[at + 2] < k {
-        if kind < 3 {
-            if part[at + 1] < g {
-                return part[at + 3] < k;
-            }
-            return false;
-        }
-        if part[at + 1] == 0 {
-            return part[at + 3] == 0;
-        }
-        return false;
-    }
-    false
+// What the reader of a step answers: one of the six primitive operations, over a right and parameters; or that the step is refused, by 9.
+pub enum StepRead {
+    Enter { right: u8, subject: u8, object: u8 },
+    Delete { right: u8, subject: u8, object: u8 },
+    CreateSubject(u8),
+    CreateObject(u8),
+    DestroySubject(u8),
+    DestroyObject(u8),
+    Refused,
 }
 
+// A step's four bytes, in a command of k parameters and a file of g rights.
+fn read_step(kind: u8, right: u8, first: u8, second: u8, k: u8, g: u8) -> StepRead
+    ensures enter { λ r. ⌜ (kind ≡ 1 → r ≡ onCell k g right first second (StepRead.Enter right first second)) ⌝ }
+    ensures delete { λ r. ⌜ (kind ≡ 2 → r ≡ onCell k g right first second (StepRead.Delete right first second)) ⌝ }
+    ensures create_subject { λ r. ⌜ (kind ≡ 3 → r ≡ onName k right first second (StepRead.CreateSubject first)) ⌝ }
+    ensures create_object { λ r. ⌜ (kind ≡ 4 → r ≡ onName k right first second (StepRead.CreateObject first)) ⌝ }
+    ensures destroy_subject { λ r. ⌜ (kind ≡ 5 → r ≡ onName k right first second (StepRead.DestroySubject first)) ⌝ }
+    ensures destroy_object { λ r. ⌜ (kind ≡ 6 → r ≡ onName k right first second (StepRead.DestroyObject first)) ⌝ }
+    ensures any_other { λ r. ⌜ ((kind < 1) ⊎ (6 < kind) → r ≡ StepRead.Refused) ⌝ }
+{
+    let on_cell = (right < g) & (first < k) & (second < k);
+    let on_name = (right == 0) & (first < k) & (second == 0);
+    match kind {
+        1 => {
+            if on_cell {
+                return StepRead::Enter {
+                    right,
+                    subject: first,
+                    object: second,
+                };
+            }
+            StepRead::Refused
+        }
+        2 => {
+            if on_cell {
+                return StepRead::Delete {
+                    right,
+                    subject: first,
+                    object: second,
+                };
+            }
+            StepRead::Refused
+        }
+        3 => {
+            if on_name {
+                return StepRead::CreateSubject(first);
+            }
+            StepRead::Refused
+        }
+        4 => {
+            if on_name {
+                return StepRead::CreateObject(first);
+            }
+            StepRead::Refused
+        }
+        5 => {
+            if on_name {
+                return StepRead::DestroySubject(first);
+            }
+            StepRead::Refused
+        }
+        6 => {
+            if on_name {
+                return StepRead::DestroyObject(first);
+            }
+            StepRead::Refused
+        }
+        _ => StepRead::Refused,
+    }
+}
+
+fn is_read(step: StepRead) -> bool
+    ensures { λ r. ⌜ r ≡ isRead step ⌝ }
+{
+    match step {
+        StepRead::Enter {
+            right: _,
+            subject: _,
+            object: _,
+        } => true,
+        StepRead::Delete {
+            right: _,
+            subject: _,
+            object: _,
+        } => true,
+        StepRead::CreateSubject(_) => true,
+        StepRead::CreateObject(_) => true,
+        StepRead::DestroySubject(_) => true,
+        StepRead::DestroyObject(_) => true,
+        StepRead::Refused => false,
+    }
+}
+
+// The reader refuses none of the steps that stand from a place of the section on.
 fn operations_fit(part: &[u8], g: u8, from: usize, count: usize) -> bool
     requires { ⌜ (count ≤ operations) × (from + 4 * count ≤ length (now part)) ⌝ }
     ensures { λ r. ⌜ r ≡ all (operationFitsAt g (now (part .entry)) from) count 0 ⌝ }
 {
     for j in 0..count {
-        if !operation_fits(part, g, from + 4 * j) {
+        let at = from + 4 * j;
+        let step = read_step(
+            part[at],
+            part[at + 1],
+            part[at + 2],
+            part[at + 3],
+            part[0],
+            g,
+        );
+        if !is_read(step) {
             return false;
         }
     }
@@ -202,8 +281,8 @@ pub enum Operation {
 }
 
 impl Command {
-    // Operation number j.
-    pub fn operation_at(self, j: usize) -> Operation
+    // What the reader says of step number j.
+    fn step_at(self, j: usize) -> StepRead
         requires { ⌜ j < operations ⌝ }
         ensures { λ r. ⌜ r ≡ operationAt self j ⌝ }
     {
@@ -211,44 +290,64 @@ impl Command {
         let right = self.operation[4 * j + 1];
         let first = self.operation[4 * j + 2];
         let second = self.operation[4 * j + 3];
-        match kind {
-            1 => Operation::Enter {
+        read_step(kind, right, first, second, self.parameters, Matrix::RIGHTS)
+    }
+
+    // Operation number j.
+    pub fn operation_at(self, j: usize) -> Operation
+        requires { ⌜ Fits rights self × (j < self .operations) ⌝ }
+        ensures { λ r. ⌜ stepOf r ≡ operationAt self j ⌝ }
+    {
+        let step = self.step_at(j);
+        match step {
+            StepRead::Enter {
                 right,
-                subject: first,
-                object: second,
-            },
-            2 => Operation::Delete {
+                subject,
+                object,
+            } => Operation::Enter {
                 right,
-                subject: first,
-                object: second,
+                subject,
+                object,
             },
-            3 => Operation::CreateSubject(first),
-            4 => Operation::CreateObject(first),
-            5 => Operation::DestroySubject(first),
-            _ => Operation::DestroyObject(first),
+            StepRead::Delete {
+                right,
+                subject,
+                object,
+            } => Operation::Delete {
+                right,
+                subject,
+                object,
+            },
+            StepRead::CreateSubject(s) => Operation::CreateSubject(s),
+            StepRead::CreateObject(o) => Operation::CreateObject(o),
+            StepRead::DestroySubject(s) => Operation::DestroySubject(s),
+            StepRead::DestroyObject(o) => Operation::DestroyObject(o),
+            // never reached: a command that was read has no such step
+            StepRead::Refused => Operation::DestroyObject(0),
         }
     }
 }
 
-// The operation names parameter b.
-fn operation_names(operation: Operation, b: u8) -> bool
-    ensures { λ r. ⌜ r ≡ inOperation b (modelOf operation) ⌝ }
+// The step names parameter b.
+fn step_names(step: StepRead, b: u8) -> bool
+    ensures { λ r. ⌜ r ≡ inOperations b (operationsOf step) ⌝ }
 {
-    match operation {
-        Operation::Enter {
+    match step {
+        StepRead::Enter {
             right: _,
             subject,
             object,
         } => (b == subject) | (b == object),
-        Operation::Delete {
+        StepRead::Delete {
             right: _,
             subject,
             object,
         } => (b == subject) | (b == object),
-        Operation::CreateSubject(s) => b == s,
-        Operation::CreateObject(o) => b == o,
-        Operation::DestroySubject(s) => b == s,
-        Operation::DestroyObject(o) => b == o,
+        StepRead::CreateSubject(s) => b == s,
+        StepRead::CreateObject(o) => b == o,
+        StepRead::DestroySubject(s) => b == s,
+        StepRead::DestroyObject(o) => b == o,
+        StepRead::Refused => false,
     }
 }
 
@@ -268,11 +367,11 @@ impl Command {
 
     fn in_operations(self, b: u8) -> bool
         requires { ⌜ self .operations ≤ operations ⌝ }
-        ensures { λ r. ⌜ r ≡ inOperations b (tabulate (operationOf self) (self .operations) 0) ⌝ }
+        ensures { λ r. ⌜ r ≡ inOperations b (operationsFrom self (self .operations) 0) ⌝ }
     {
         let n = self.operations as usize;
         for j in 0..n {
-            if operation_names(self.operation_at(j), b) {
+            if step_names(self.step_at(j), b) {
                 return true;
             }
         }

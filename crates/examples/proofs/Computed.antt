@@ -7,6 +7,7 @@ use Rattle.matrix.specs.Bytes.{kindsOf, cellsOf}
 use Rattle.matrix.specs.Refusals.{cellFits, matrixRefusal}
 use Rattle.layout.specs.File.{startOf}
 use Rattle.layout.specs.Refusals.{headerRefusal, pairsRefusal, sizesRefusal}
+use Rattle.commands.specs.Steps.{stepRead}
 use Rattle.commands.specs.Refusals.{conditionFits, operationFits, commandRefusal}
 use Rattle.commands.specs.Contents.{commandOf}
 use Rattle.policy.specs.Refusals.{commandsRefusal}
@@ -16,5 +17,5 @@ use Rattle.safety.specs.Judgement.{callerRefusal}
 use Rattle.listing.specs.Listing.{digits}
 
 unfoldable pub computed : Unit {0}
-unfolding iterate all number lowestAbsent rounds count judge kindsOf cellsOf cellFits matrixRefusal startOf headerRefusal pairsRefusal sizesRefusal conditionFits operationFits commandRefusal commandOf commandsRefusal commandTable policyOf written replayFrom callerRefusal digits
+unfolding stepRead iterate all number lowestAbsent rounds count judge kindsOf cellsOf cellFits matrixRefusal startOf headerRefusal pairsRefusal sizesRefusal conditionFits operationFits commandRefusal commandOf commandsRefusal commandTable policyOf written replayFrom callerRefusal digits
 computed = tt

@@ -1,9 +1,8 @@
 -- A call by the command's number. Assumes nothing.
-use Prim.Native.Nat.{ℕ, _+_, _*_, _≤_, _<_}
+use Prim.Native.Nat.{ℕ, _+_, _≤_, _<_}
 use mathlib.Core.Path.{_≡_, refl, sym, ap, _∙_, subst}
 use mathlib.Core.List.{List}
 use mathlib.Core.Option.{Option, none, some}
-use native.Mathlib.Nat.{le-trans}
 use native.Mathlib.Omega.{arith}
 use lib.ListN.{getD, getElem?}
 use Rattle.cases.proofs.Lists.{found-tabulate, none-tabulate}
@@ -16,28 +15,13 @@ use Rattle.matrix.specs.declared.Matrix.{Matrix}
 use Rattle.commands.specs.Contents.{missing, meaning}
 use Rattle.commands.specs.Fits.{Fits}
 use Rattle.commands.specs.declared.Command.{Command}
+use Rattle.commands.proofs.Reading.{fits-wider}
 use Rattle.policy.specs.Contents.{systemOf}
 use Rattle.policy.specs.Fits.{PolicyFits}
 use Rattle.policy.specs.declared.Policy.{Policy}
 use Rattle.execution.specs.Runs.{refusedExecuted, outcomeOf, ExecutedAs}
 use Rattle.execution.specs.declared.Executed.{Executed}
 use Rattle.execution.proofs.Running.{executed-refused}
-
--- what fits with g rights fits with more
-pub fits-wider : (g h : ℕ) (c : Command) → g ≤ h → Fits g c → Fits h c
-fits-wider g h c l F = record {
-  some-parameter = F .some-parameter;
-  few-parameters = F .few-parameters;
-  few-conditions = F .few-conditions;
-  some-operation = F .some-operation;
-  few-operations = F .few-operations;
-  condition-right = λ j k. omega (arith, F .condition-right j k);
-  condition-subject = F .condition-subject;
-  condition-object = F .condition-object;
-  operation-right = λ j k. omega (arith, F .operation-right j k);
-  operation-first = F .operation-first;
-  operation-second = F .operation-second;
-}
 
 module _ (p : Policy) (m : Matrix) (i : ℕ) (a : List ℕ) (right : ℕ) where
   pub refused-11 : (x : Executed) → Canonical rights (m .kinds) (m .cells) → p .commands ≤ i → x ≡ refusedExecuted 11 m → ExecutedAs right (outcomeOf p m i a) m x

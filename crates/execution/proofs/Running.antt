@@ -21,7 +21,7 @@ use Rattle.matrix.specs.Bytes.{view}
 use Rattle.matrix.specs.Canonical.{Canonical}
 use Rattle.matrix.specs.Matrices.{stateOf}
 use Rattle.matrix.specs.declared.Matrix.{Matrix}
-use Rattle.commands.specs.Contents.{operationBy, operationAt, operationOf, modelOf, conditionOf, meaning}
+use Rattle.commands.specs.Contents.{operationAt, stepOf, operationsFrom, modelOf, conditionOf, meaning}
 use Rattle.commands.specs.Fits.{Fits}
 use Rattle.commands.specs.declared.Command.{Command}
 use Rattle.commands.specs.declared.Operation.{Operation}
@@ -33,26 +33,12 @@ use Rattle.execution.specs.declared.Answer.the-variants.{Refused, Done, 
 use Rattle.execution.specs.declared.Executed.{Executed}
 use Rattle.execution.specs.declared.Ran.{Ran}
 use Rattle.protection.proofs.Spare.{named-used, fits-name}
+use Rattle.protection.proofs.Calls.{OperationBelow}
 use Rattle.commands.proofs.Names.{condition-names, operation-names}
+use Rattle.commands.proofs.Reading.{operation-more, operation-limits}
 use Rattle.operations.proofs.Applied.{Grants, can-by-kinds, performed-state, performed-canonical}
 
 -- ---- operations that apply
--- the operation that four bytes say
-applies-by : (a : List ℕ) (k q s o : ℕ) → q < rights → (T (inOperation s (modelOf (operationBy k q s o))) → HasName a s) → (T (inOperation o (modelOf (operationBy k q s o))) → HasName a o)
-    → Applies a (operationBy k q s o)
-applies-by a k q s o lq = go (eqb k 1) (eqb k 2) (eqb k 3) (eqb k 4) (eqb k 5)
-  where
-    op : (b₁ b₂ b₃ b₄ b₅ : Bool) → Operation
-    op b₁ b₂ b₃ b₄ b₅ = pick b₁ (Enter q s o) (pick b₂ (Delete q s o) (pick b₃ (CreateSubject s) (pick b₄ (CreateObject s) (pick b₅ (DestroySubject s) (DestroyObject s)))))
-
-    go : (b₁ b₂ b₃ b₄ b₅ : Bool) → (T (inOperation s (modelOf (op b₁ b₂ b₃ b₄ b₅))) → HasName a s) → (T (inOperation o (modelOf (op b₁ b₂ b₃ b₄ b₅))) → HasName a o) → Applies a (op b₁ b₂ b₃ b₄ b₅)
-    go true b₂ b₃ b₄ b₅ hs ho = (lq, hs (or-left (eqb s s) (eqb s o) (eqb-refl s)), ho (or-right (eqb o s) (eqb o o) (eqb-refl o)))
-    go false true b₃ b₄ b₅ hs ho = (lq, hs (or-left (eqb s s) (eqb s o) (eqb-refl s)), ho (or-right (eqb o s) (eqb o o) (eqb-refl o)))
-    go false false true b₄ b₅ hs ho = hs (eqb-refl s)
-    go false false false true b₅ hs ho = hs (eqb-refl s)
-    go false false false false true hs ho = hs (eqb-refl s)
-    go false false false false false hs ho = hs (eqb-refl s)
-
 grants : (a : List ℕ) (op : Operation) → Applies a op → Grants rights op
 grants a (Enter q s o) h = h .0
 grants a (Delete q s o) h = h .0
@@ -61,31 +47,31 @@ grants a (CreateObject o) h = tt
 grants a (DestroySubject s) h = tt
 grants a (DestroyObject o) h = tt
 
-pub applies-at : (a : List ℕ) (c : Command) (j : ℕ) (op : Operation) → OperationsApply a c → j < c .operations → op ≡ operationAt c j → Applies a op
-applies-at a c j op h l e = subst (Applies a) (sym e) (h .all j l)
+pub applies-at : (a : List ℕ) (c : Command) (j : ℕ) (op : Operation) → OperationsApply a c → j < c .operations → stepOf op ≡ operationAt c j → Applies a op
+applies-at a c j op h l e = h .all j op l e
 
 -- ---- what is left of the operations, from where the loop stands, is the whole
 pub record Going (right : ℕ) (m : Matrix) (a : List ℕ) (c : Command) (j : ℕ) (x : Matrix) (leaked : Bool) : Type 0 where
-  pub able : canDoAll (stateOf x) (valuesOf a) (tabulate (operationOf c) (c .operations - j) j) ≡ canDoAll (stateOf m) (valuesOf a) (tabulate (operationOf c) (c .operations) 0)
-  pub leak : leaked || entersAnyNew (stateOf x) (valuesOf a) (tabulate (operationOf c) (c .operations - j) j) right ≡ entersAnyNew (stateOf m) (valuesOf a) (tabulate (operationOf c) (c .operations) 0) right
-  pub state : effectAll (stateOf x) (valuesOf a) (tabulate (operationOf c) (c .operations - j) j) ≡ effectAll (stateOf m) (valuesOf a) (tabulate (operationOf c) (c .operations) 0)
+  pub able : canDoAll (stateOf x) (valuesOf a) (operationsFrom c (c .operations - j) j) ≡ canDoAll (stateOf m) (valuesOf a) (operationsFrom c (c .operations) 0)
+  pub leak : leaked || entersAnyNew (stateOf x) (valuesOf a) (operationsFrom c (c .operations - j) j) right ≡ entersAnyNew (stateOf m) (valuesOf a) (operationsFrom c (c .operations) 0) right
+  pub state : effectAll (stateOf x) (valuesOf a) (operationsFrom c (c .operations - j) j) ≡ effectAll (stateOf m) (valuesOf a) (operationsFrom c (c .operations) 0)
   pub canonical : Canonical rights (x .kinds) (x .cells)
 
 pub going-start : (right : ℕ) (m : Matrix) (a : List ℕ) (c : Command) → Canonical rights (m .kinds) (m .cells) → Going right m a c 0 m false
 going-start right m a c K = record { able = rw sub-zero; leak = rw sub-zero; state = rw sub-zero; canonical = K }
 
 module _ (right : ℕ) (m : Matrix) (a : List ℕ) (c : Command) (j : ℕ) (x : Matrix) (leaked : Bool) (G : Going right m a c j x leaked)
-    (l : j < c .operations) (op : Operation) (e : op ≡ operationAt c j) (r : Bool) (d : r ≡ canDo (view (x .kinds) []) (valuesOf a) (modelOf op)) where
-  unrolled : tabulate (operationOf c) (c .operations - j) j ≡ operationOf c j ∷ tabulate (operationOf c) (c .operations - (j + 1)) (j + 1)
-  unrolled = let z : c .operations - j ≡ suc (c .operations - (j + 1)) = omega arith in rw (z, add-one j)
+    (l : j < c .operations) (op : Operation) (e : stepOf op ≡ operationAt c j) (r : Bool) (d : r ≡ canDo (view (x .kinds) []) (valuesOf a) (modelOf op)) where
+  unrolled : operationsFrom c (c .operations - j) j ≡ modelOf op ∷ operationsFrom c (c .operations - (j + 1)) (j + 1)
+  unrolled = operation-more c (c .operations) j l op e
 
-  can-here : r ≡ canDo (stateOf x) (valuesOf a) (operationOf c j)
-  can-here = d ∙ can-by-kinds (x .kinds) [] (x .cells) (valuesOf a) op ∙ ap (λ (p : Operation). canDo (stateOf x) (valuesOf a) (modelOf p)) e
+  can-here : r ≡ canDo (stateOf x) (valuesOf a) (modelOf op)
+  can-here = d ∙ can-by-kinds (x .kinds) [] (x .cells) (valuesOf a) op
 
-  pub going-stop : Canonical rights (m .kinds) (m .cells) → not r ≡ true → RanAs right m a (tabulate (operationOf c) (c .operations) 0) (record { done = false; leaked = leaked; matrix = m })
+  pub going-stop : Canonical rights (m .kinds) (m .cells) → not r ≡ true → RanAs right m a (operationsFrom c (c .operations) 0) (record { done = false; leaked = leaked; matrix = m })
   going-stop K t =
-      let z : canDo (stateOf x) (valuesOf a) (operationOf c j) ≡ false = sym can-here ∙ not-true r t in
-      let w : canDoAll (stateOf x) (valuesOf a) (tabulate (operationOf c) (c .operations - j) j) ≡ false = ap (canDoAll (stateOf x) (valuesOf a)) unrolled ∙ rw z in
+      let z : canDo (stateOf x) (valuesOf a) (modelOf op) ≡ false = sym can-here ∙ not-true r t in
+      let w : canDoAll (stateOf x) (valuesOf a) (operationsFrom c (c .operations - j) j) ≡ false = ap (canDoAll (stateOf x) (valuesOf a)) unrolled ∙ rw z in
       record { able = sym w ∙ G .able; leak = λ q. absurd (never q); state = λ q. absurd (never q); canonical = K }
     where
       never : _≡_ {A = Bool} false true → ⊥
@@ -94,32 +80,32 @@ module _ (right : ℕ) (m : Matrix) (a : List ℕ) (c : Command) (j : ℕ) (x : 
   pub going-more : OperationsApply a c → not r ≡ false → (b : Bool) → b ≡ entersNew (view (x .kinds) (x .cells)) (valuesOf a) (modelOf op) right → (y : Matrix) → y ≡ performed x (valuesOf a) op
       → Going right m a c (j + 1) y (leaked || b)
   going-more h t b db y dy =
-      let z : canDo (stateOf x) (valuesOf a) (operationOf c j) ≡ true = sym can-here ∙ not-false r t in
-      let can : T (canDo (stateOf x) (valuesOf a) (modelOf op)) = test-holds (canDo (stateOf x) (valuesOf a) (modelOf op)) (ap (λ (p : Operation). canDo (stateOf x) (valuesOf a) (modelOf p)) e ∙ z) in
+      let z : canDo (stateOf x) (valuesOf a) (modelOf op) ≡ true = sym can-here ∙ not-false r t in
+      let can : T (canDo (stateOf x) (valuesOf a) (modelOf op)) = test-holds (canDo (stateOf x) (valuesOf a) (modelOf op)) z in
       let ap-op = applies-at a c j op h l e in
       let gr = grants a op ap-op in
-      let st : stateOf y ≡ effect (stateOf x) (valuesOf a) (operationOf c j) =
-      ap stateOf dy ∙ performed-state rights x (G .canonical) a op ap-op gr can ∙ ap (λ (p : Operation). effect (stateOf x) (valuesOf a) (modelOf p)) e in
-      let nw : b ≡ entersNew (stateOf x) (valuesOf a) (operationOf c j) right = db ∙ ap (λ (p : Operation). entersNew (stateOf x) (valuesOf a) (modelOf p) right) e in
+      let st : stateOf y ≡ effect (stateOf x) (valuesOf a) (modelOf op) =
+      ap stateOf dy ∙ performed-state rights x (G .canonical) a op ap-op gr can in
+      let nw : b ≡ entersNew (stateOf x) (valuesOf a) (modelOf op) right = db in
       record {
         able = ap (λ (s : State). canDoAll s (valuesOf a) rest) st ∙ sym (ap (canDoAll (stateOf x) (valuesOf a)) unrolled ∙ rw z) ∙ G .able;
         leak =
             ap₂ (λ (u : Bool) (s : State). (leaked || u) || entersAnyNew s (valuesOf a) rest right) nw st
-            ∙ or-assoc leaked (entersNew (stateOf x) (valuesOf a) (operationOf c j) right) (entersAnyNew (effect (stateOf x) (valuesOf a) (operationOf c j)) (valuesOf a) rest right)
+            ∙ or-assoc leaked (entersNew (stateOf x) (valuesOf a) (modelOf op) right) (entersAnyNew (effect (stateOf x) (valuesOf a) (modelOf op)) (valuesOf a) rest right)
             ∙ ap (λ (ops : List ModelOperation). leaked || entersAnyNew (stateOf x) (valuesOf a) ops right) (sym unrolled) ∙ G .leak;
         state = ap (λ (s : State). effectAll s (valuesOf a) rest) st ∙ ap (effectAll (stateOf x) (valuesOf a)) (sym unrolled) ∙ G .state;
         canonical = subst (λ (w : Matrix). Canonical rights (w .kinds) (w .cells)) (sym dy) (performed-canonical rights x (G .canonical) a op ap-op gr can);
       }
     where
       rest : List ModelOperation
-      rest = tabulate (operationOf c) (c .operations - (j + 1)) (j + 1)
+      rest = operationsFrom c (c .operations - (j + 1)) (j + 1)
 
       or-assoc : (u v w : Bool) → (u || v) || w ≡ u || (v || w)
       or-assoc true v w = refl
       or-assoc false v w = refl
 
 pub going-end : (right : ℕ) (m : Matrix) (a : List ℕ) (c : Command) (j : ℕ) (x : Matrix) (leaked : Bool) → Going right m a c j x leaked → c .operations ≤ j
-    → RanAs right m a (tabulate (operationOf c) (c .operations) 0) (record { done = true; leaked = leaked; matrix = x })
+    → RanAs right m a (operationsFrom c (c .operations) 0) (record { done = true; leaked = leaked; matrix = x })
 going-end right m a c j x leaked G h =
     let z : c .operations - j ≡ 0 = omega arith in
     record {
@@ -153,14 +139,15 @@ module _ (a : List ℕ) (c : Command) (F : Fits rights c) (r : Bool) (d : r ≡ 
   }
 
   pub operations-apply : OperationsApply a c
-  operations-apply = record {
-    few = F .few-operations;
-    all = λ j l.
-        let s = getD (c .operation) (4 * j + 2) 0 in
-        let o = getD (c .operation) (4 * j + 3) 0 in
-        applies-by a (getD (c .operation) (4 * j) 0) (getD (c .operation) (4 * j + 1) 0) s o (F .operation-right j l)
-        (λ n. has-name s (F .operation-first j l) (operation-names c s j l n)) (λ n. has-name o (F .operation-second j l) (operation-names c o j l n));
-  }
+  operations-apply = record { fits = F; all = λ j o l e. by o (operation-limits rights c F (omega arith) j l o e) (λ b k n. has-name b k (operation-names c b j o l e n)) }
+    where
+      by : (op : Operation) → OperationBelow (c .parameters) rights (modelOf op) → ((b : ℕ) → b < c .parameters → T (inOperation b (modelOf op)) → HasName a b) → Applies a op
+      by (Enter q s o) l n = (l .0, n s (l .1) (or-left (eqb s s) (eqb s o) (eqb-refl s)), n o (l .2) (or-right (eqb o s) (eqb o o) (eqb-refl o)))
+      by (Delete q s o) l n = (l .0, n s (l .1) (or-left (eqb s s) (eqb s o) (eqb-refl s)), n o (l .2) (or-right (eqb o s) (eqb o o) (eqb-refl o)))
+      by (CreateSubject s) l n = n s l (eqb-refl s)
+      by (CreateObject o) l n = n o l (eqb-refl o)
+      by (DestroySubject s) l n = n s l (eqb-refl s)
+      by (DestroyObject o) l n = n o l (eqb-refl o)
 
 -- ---- what a call answers
 pub executed-refused : (right n : ℕ) (m : Matrix) (o : Outcome) (x : Executed) → Canonical rights (m .kinds) (m .cells) → o ≡ refused n → x ≡ refusedExecuted n m → ExecutedAs right o m x
@@ -173,7 +160,7 @@ module _ (right : ℕ) (m : Matrix) (c : Command) (a : List ℕ) (K : Canonical 
   outcome = executeCommand bounded (stateOf m) (some (meaning c)) (valuesOf a)
 
   abbrev end : Outcome
-  end = done (effectAll (stateOf m) (valuesOf a) (tabulate (operationOf c) (c .operations) 0)) (entersAnyNew (stateOf m) (valuesOf a) (tabulate (operationOf c) (c .operations) 0))
+  end = done (effectAll (stateOf m) (valuesOf a) (operationsFrom c (c .operations) 0)) (entersAnyNew (stateOf m) (valuesOf a) (operationsFrom c (c .operations) 0))
 
   module _ (r₁ : Bool) (d₁ : r₁ ≡ all (actualFits bounded (meaning c) (valuesOf a)) parameters 0) where
     pub refused-12 : (x : Executed) → not r₁ ≡ true → x ≡ refusedExecuted 12 m → ExecutedAs right outcome m x
@@ -186,7 +173,7 @@ module _ (right : ℕ) (m : Matrix) (c : Command) (a : List ℕ) (K : Canonical 
       pub refused-14 : (x : Executed) → not r₃ ≡ true → x ≡ refusedExecuted 14 m → ExecutedAs right outcome m x
       refused-14 x t e = executed-refused right 14 m outcome x K (let z = sym d₃ ∙ not-true r₃ t in rw (passed-12, z)) e
 
-      module _ (t₃ : not r₃ ≡ false) (w : Ran) (d₄ : RanAs right m a (tabulate (operationOf c) (c .operations) 0) w) where
+      module _ (t₃ : not r₃ ≡ false) (w : Ran) (d₄ : RanAs right m a (operationsFrom c (c .operations) 0) w) where
         passed-14 : holdAll (view (m .kinds) (m .cells)) (valuesOf a) (tabulate (conditionOf c) (c .conditions) 0) ≡ true
         passed-14 = sym d₃ ∙ not-false r₃ t₃
 

@@ -1,19 +1,21 @@
 -- What a rule run answers and leaves.
-use Prim.Native.Nat.{ℕ, _≤_, _<_}
+use Prim.Native.Nat.{ℕ, _<_}
 use mathlib.Core.Path.{_≡_}
 use mathlib.Core.Bool.{Bool, true, false}
 use mathlib.Core.List.{List}
 use lib.ListN.{getElem?}
 use Rattle.cases.specs.Cases.{pick}
-use Rattle.protection.specs.Limits.{rights, operations}
+use Rattle.protection.specs.Limits.{rights}
 use Rattle.protection.specs.Command.{Operation, valuesOf}
 use Rattle.protection.specs.Execution.{canDoAll, effectAll, entersAnyNew, Outcome, refused, done, bounded, executeCommand}
 use Rattle.protection.specs.Leak.{after}
 use Rattle.matrix.specs.Canonical.{Canonical}
 use Rattle.matrix.specs.Matrices.{stateOf}
 use Rattle.matrix.specs.declared.Matrix.{Matrix}
-use Rattle.commands.specs.Contents.{operationAt}
+use Rattle.commands.specs.Contents.{operationAt, stepOf}
+use Rattle.commands.specs.Fits.{Fits}
 use Rattle.commands.specs.declared.Command.{Command}
+use Rattle.commands.specs.declared.Operation.{Operation as CodeOperation}
 use Rattle.policy.specs.Contents.{systemOf}
 use Rattle.policy.specs.declared.Policy.{Policy}
 use Rattle.operations.specs.Operations.{Applies}
@@ -24,8 +26,8 @@ use Rattle.execution.specs.declared.Ran.{Ran}
 
 -- the operations have rights that a cell can hold, and their parameters have names
 pub record OperationsApply (a : List ℕ) (c : Command) : Type 0 where
-  pub few : c .operations ≤ operations
-  pub all : (j : ℕ) → j < c .operations → Applies a (operationAt c j)
+  pub fits : Fits rights c
+  pub all : (j : ℕ) (o : CodeOperation) → j < c .operations → stepOf o ≡ operationAt c j → Applies a o
 
 -- all operations were done, and this is what they left; or one could not be done
 pub record RanAs (right : ℕ) (m : Matrix) (a : List ℕ) (ops : List Operation) (x : Ran) : Type 0 where

@@ -2,12 +2,11 @@
 ghost use mathlib.Core.Path.{_≡_};
 ghost use mathlib.Core.Option.{some};
 ghost use Rattle.protection.specs.Limits.{rights};
-ghost use Rattle.cases.specs.Cases.{tabulate};
 ghost use Rattle.protection.specs.Command.{valuesOf};
 ghost use Rattle.protection.specs.Execution.{bounded, executeCommand};
 ghost use Rattle.matrix.specs.Canonical.{Canonical};
 ghost use Rattle.matrix.specs.Matrices.{stateOf};
-ghost use Rattle.commands.specs.Contents.{operationOf, meaning};
+ghost use Rattle.commands.specs.Contents.{operationsFrom, meaning};
 ghost use Rattle.commands.specs.Fits.{Fits};
 ghost use Rattle.policy.specs.Fits.{PolicyFits};
 ghost use Rattle.execution.specs.Runs.{OperationsApply, RanAs, refusedExecuted, ExecutedAs, outcomeOf};
@@ -39,7 +38,7 @@ struct Ran {
 // The operations in order, each on what the one before left.
 fn run_operations(m: Matrix, c: Command, a: [u8; Command::PARAMETERS], right: u8) -> Ran
     requires { ⌜ Canonical rights (m .kinds) (m .cells) × OperationsApply a c ⌝ }
-    ensures { λ r. ⌜ RanAs right m a (tabulate (operationOf c) (c .operations) 0) r ⌝ }
+    ensures { λ r. ⌜ RanAs right m a (operationsFrom c (c .operations) 0) r ⌝ }
 {
     let n = c.operations as usize;
     let mut matrix = m;

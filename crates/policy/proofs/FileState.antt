@@ -129,7 +129,7 @@ policy-fits f A = record {
   few-rights = A .header .few-rights;
   few-commands = omega (arith, A .header .few-pairs);
   matrix-fits = file-canonical f A;
-  commands-fit = λ i l. subst (Fits (rightsOf f)) (sym (at i l)) (command-fits (rightsOf f) (commandIn f i) (A .commands i l) (A .header .some-right));
+  commands-fit = λ i l. subst (Fits (rightsOf f)) (sym (at i l)) (command-fits (rightsOf f) (commandIn f i) (A .commands i l));
 }
   where
     at : (i : ℕ) → i < commandsOf f → getD (commandTable f (commandsOf f)) i missing ≡ commandOf (commandIn f i)

@@ -19,7 +19,8 @@ use Rattle.protection.specs.Size.{namesOf, stepBound}
 use Rattle.protection.specs.Command.{System}
 use Rattle.matrix.specs.Bytes.{view}
 use Rattle.matrix.specs.Matrices.{stateOf}
-use Rattle.commands.specs.Contents.{missing, operationOf}
+use Rattle.commands.specs.Contents.{missing}
+use Rattle.commands.proofs.Reading.{operations-length}
 use Rattle.commands.specs.declared.Command.{Command}
 use Rattle.policy.specs.Refusals.{refusal}
 use Rattle.policy.specs.Contents.{systemOf, fileState, fileSystem}
@@ -33,19 +34,19 @@ use Rattle.safety.specs.declared.Judgement.the-variants.{Refused}
 abbrev pub oneOperation : Policy → ℕ → Bool
 oneOperation p i = ltb (getD (p .command) i missing .operations) 2
 
-single-all : (p : Policy) (n j : ℕ) → singleOperations (tabulate (commandNumber p) n j) ≡ all (oneOperation p) n j
+single-all : (p : Policy) → PolicyFits p → (n j : ℕ) → j + n ≤ p .commands → singleOperations (tabulate (commandNumber p) n j) ≡ all (oneOperation p) n j
 unfolding all
-single-all p zero j = refl
-single-all p (suc n) j =
-    ap₂ _&&_ (ap (λ (k : ℕ). ltb k 2) (length-tabulate (operationOf (getD (p .command) j missing)) (getD (p .command) j missing .operations) 0)) (single-all p n (suc j))
+single-all p F zero j l = refl
+single-all p F (suc n) j l =
+    ap₂ _&&_ (ap (λ (k : ℕ). ltb k 2) (operations-length (p .rights) (getD (p .command) j missing) (F .commands-fit j (omega arith)) (F .few-rights))) (single-all p F n (suc j) (omega arith))
     ∙ both (oneOperation p j) (all (oneOperation p) n (suc j))
   where
     both : (b c : Bool) → b && c ≡ pick b c false
     both true c = refl
     both false c = refl
 
-pub single-start : (p : Policy) (n : ℕ) → n ≡ p .commands → all (oneOperation p) (n - 0) 0 ≡ singleOperations (systemOf p .commands)
-single-start p n e = rw (sub-zero n, e) (sym (single-all p (p .commands) 0))
+pub single-start : (p : Policy) → PolicyFits p → (n : ℕ) → n ≡ p .commands → all (oneOperation p) (n - 0) 0 ≡ singleOperations (systemOf p .commands)
+single-start p F n e = rw (sub-zero n, e) (sym (single-all p F (p .commands) 0 (omega arith)))
 
 pub single-many : (p : Policy) (n i : ℕ) (whole : Bool) (c : Command) → c ≡ getD (p .command) i missing → 2 ≤ c .operations → i < n → all (oneOperation p) (n - i) i ≡ whole → false ≡ whole
 single-many p n i whole c e h l = all-false (oneOperation p) n whole i (le-ltb (getD (p .command) i missing .operations) 2 (rw e at h)) l
@@ -164,7 +165,7 @@ question-asked p r n e F = record {
   below = P .below;
   single = record {
     one-step = λ i l.
-        let whole : all (oneOperation p) (p .commands) 0 ≡ true = sym (single-all p (p .commands) 0) ∙ P .single in
+        let whole : all (oneOperation p) (p .commands) 0 ≡ true = sym (single-all p F (p .commands) 0 (omega arith)) ∙ P .single in
         let few : getD (p .command) i missing .operations < 2 = ltb→lt (getD (p .command) i missing .operations) 2 (test-holds (oneOperation p i) (all-at (oneOperation p) (p .commands) 0 whole i (omega arith) (omega arith))) in
         omega (arith, F .commands-fit i l .some-operation);
   };

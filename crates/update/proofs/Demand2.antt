@@ -1,6 +1,6 @@
 -- Demand 2: a rule run on a file does what the model of Harrison, Ruzzo and Ullman says, all its steps or none; it is refused exactly if that model does
 -- not execute it or document 01 forbids it; and the file stays an accepted one with the same rules. Assumes nothing.
-use Prim.Native.Nat.{ℕ, _+_, _*_, _≤_, _<_}
+use Prim.Native.Nat.{ℕ, _+_, _≤_, _<_}
 use mathlib.Core.Path.{_≡_, refl, sym, ap, _∙_, subst}
 use mathlib.Core.Bool.{Bool, true, false}
 use mathlib.Core.List.{List, [], _∷_}
@@ -10,23 +10,23 @@ use native.Mathlib.Decide.{decLt}
 use borrow.Author.Tests.{ne-eqb}
 use lib.Dec.{T, eqb, eqb-refl, ltb→lt}
 use lib.ListN.{getD, getElem?}
-use Rattle.cases.specs.Cases.{pick, all, tabulate}
+use Rattle.cases.specs.Cases.{all, tabulate}
 use Rattle.cases.proofs.Lists.{found-tabulate, none-tabulate}
-use Rattle.protection.specs.Limits.{names, parameters}
+use Rattle.protection.specs.Limits.{names, rights, parameters}
 use Rattle.protection.specs.State.{State}
-use Rattle.protection.specs.Command.{Command as ModelCommand, Call, Actuals, actuals, valuesOf, inOperation}
+use Rattle.protection.specs.Command.{Operation as ModelOperation, enter, delete, createSubject, createObject, destroySubject, destroyObject, Command as ModelCommand, Call, Actuals, actuals, valuesOf, inOperation}
 use Rattle.protection.specs.Execution.{bounded, holdAll, actualFits, canDoAll, effectAll, entersAnyNew, Outcome, refused, done, gate, executeCommand}
 use Rattle.protection.specs.Paper.{Configuration, configuration, Same, Executes}
 use Rattle.protection.specs.Agreement.{Admitted, Agrees}
 use Rattle.protection.proofs.Model.{machine-is-model, gates-elim}
 use Rattle.protection.proofs.Spare.{named-used, fits-name}
+use Rattle.protection.proofs.Calls.{OperationBelow, operation-below}
 use Rattle.protection.specs.Proper.{Proper}
-use Rattle.commands.specs.Contents.{missing, operationBy, operationOf, modelOf, meaning}
+use Rattle.commands.specs.Contents.{missing, operationsFrom, modelOf, meaning}
 use Rattle.commands.specs.Fits.{Fits}
 use Rattle.commands.specs.declared.Command.{Command}
-use Rattle.commands.specs.declared.Operation.{Operation}
-use Rattle.commands.specs.declared.Operation.the-variants.{Enter, Delete, CreateSubject, CreateObject, DestroySubject, DestroyObject}
 use Rattle.commands.proofs.Names.{operation-names}
+use Rattle.commands.proofs.Reading.{reads-at, operation-limits}
 use Rattle.layout.specs.File.{rightsOf}
 use Rattle.policy.specs.Refusals.{refusal}
 use Rattle.policy.specs.Contents.{policyOf, fileState, fileSystem}
@@ -36,7 +36,7 @@ use Rattle.policy.proofs.FileState.{policy-fits, file-proper}
 use Rattle.policy.proofs.Rewritten.{state-written, system-written, rewritten-accepted}
 use Rattle.update.specs.Demand2.{Demand2}
 use Rattle.update.specs.Files.{fileOutcome, codeOf, rewritten, runCode, runFile, FileRun}
-use Rattle.update.proofs.Preserved.{Sound, SoundAll, sound-tabulate, proper-all}
+use Rattle.update.proofs.Preserved.{Sound, SoundAll, sound-steps, proper-all}
 
 -- ---- a refusal of the machine is one of 11 to 15
 refused-number : (nameable : ℕ → Bool) (m : State) (w : Option ModelCommand) (a : Actuals) (n : ℕ) → executeCommand nameable m w a ≡ refused n → 11 ≤ n
@@ -57,27 +57,25 @@ refused-number nameable m (some C) a n e =
     go true true true e = absurd (let z : _≡_ {A = ℕ} 0 1 = cc in omega arith)
 
 -- ---- the operations of an accepted file's commands are sound
-module _ (g : ℕ) (a : List ℕ) (c : Command) (F : Fits g c) (fit : T (all (actualFits bounded (meaning c) (valuesOf a)) parameters 0)) where
-  sound-by : (k q s o : ℕ) → q < g → (T (inOperation s (modelOf (operationBy k q s o))) → getD a s 0 < names) → Sound g (valuesOf a) (modelOf (operationBy k q s o))
-  sound-by k q s o lq = go (eqb k 1) (eqb k 2) (eqb k 3) (eqb k 4) (eqb k 5)
-    where
-      op : (b₁ b₂ b₃ b₄ b₅ : Bool) → Operation
-      op b₁ b₂ b₃ b₄ b₅ = pick b₁ (Enter q s o) (pick b₂ (Delete q s o) (pick b₃ (CreateSubject s) (pick b₄ (CreateObject s) (pick b₅ (DestroySubject s) (DestroyObject s)))))
+module _ (g : ℕ) (a : List ℕ) (c : Command) (F : Fits g c) (few : g ≤ rights) (fit : T (all (actualFits bounded (meaning c) (valuesOf a)) parameters 0)) where
+  sound-by : (op : ModelOperation) → OperationBelow (c .parameters) g op → ((b : ℕ) → T (inOperation b op) → getD a b 0 < names) → Sound g (valuesOf a) op
+  sound-by (enter q s o) l n = l .0
+  sound-by (delete q s o) l n = tt
+  sound-by (createSubject s) l n = n s (eqb-refl s)
+  sound-by (createObject o) l n = n o (eqb-refl o)
+  sound-by (destroySubject s) l n = tt
+  sound-by (destroyObject o) l n = tt
 
-      go : (b₁ b₂ b₃ b₄ b₅ : Bool) → (T (inOperation s (modelOf (op b₁ b₂ b₃ b₄ b₅))) → getD a s 0 < names) → Sound g (valuesOf a) (modelOf (op b₁ b₂ b₃ b₄ b₅))
-      go true b₂ b₃ b₄ b₅ n = lq
-      go false true b₃ b₄ b₅ n = tt
-      go false false true b₄ b₅ n = n (eqb-refl s)
-      go false false false true b₅ n = n (eqb-refl s)
-      go false false false false true n = tt
-      go false false false false false n = tt
-
-  sound-all : SoundAll g (valuesOf a) (tabulate (operationOf c) (c .operations) 0)
-  sound-all = sound-tabulate g (valuesOf a) (operationOf c) (c .operations) 0 (λ j _ l.
+  sound-all : SoundAll g (valuesOf a) (operationsFrom c (c .operations) 0)
+  sound-all = sound-steps g (valuesOf a) c (c .operations) 0 (λ j _ l.
       let h : j < c .operations = omega arith in
-      let s = getD (c .operation) (4 * j + 2) 0 in
-      sound-by (getD (c .operation) (4 * j) 0) (getD (c .operation) (4 * j + 1) 0) s (getD (c .operation) (4 * j + 3) 0) (F .operation-right j h)
-      (λ n. ltb→lt (getD a s 0) names (fits-name bounded (meaning c) (valuesOf a) fit (F .few-parameters) s (F .operation-first j h) (named-used (meaning c) s (operation-names c s j h n)))))
+      let R = reads-at g c F few j h in
+      let k = operation-limits g c F few j h (R .0) (sym (R .1)) in (
+        R .0,
+        sym (R .1),
+        sound-by (modelOf (R .0)) k (λ b n. ltb→lt (getD a b 0) names
+            (fits-name bounded (meaning c) (valuesOf a) fit (F .few-parameters) b (operation-below (c .parameters) g b (modelOf (R .0)) k n) (named-used (meaning c) b (operation-names c b j (R .0) h (sym (R .1)) n)))),
+      ))
 
 -- ---- a call that is done leaves a state that fits into the file
 module _ (f : List ℕ) (A : Accepted f) (x : Call) where
@@ -105,7 +103,7 @@ module _ (f : List ℕ) (A : Accepted f) (x : Call) where
           let z : effectAll (fileState f) (actuals x) (meaning C .operations) ≡ m' = cc in
           subst (Proper (rightsOf f)) z
           (proper-all (rightsOf f) (meaning C .operations) (fileState f) (actuals x) (file-proper f A)
-          (sound-all (rightsOf f) (x .a0 ∷ x .a1 ∷ x .a2 ∷ x .a3 ∷ []) C G fit) can))
+          (sound-all (rightsOf f) (x .a0 ∷ x .a1 ∷ x .a2 ∷ x .a3 ∷ []) C G (A .header .few-rights) fit) can))
 
       go : Dec (x .command < policyOf f .commands) → fileOutcome f x ≡ done m' new → Proper (rightsOf f) m'
       go (yes l) e =

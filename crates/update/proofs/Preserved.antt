@@ -2,17 +2,21 @@
 use Prim.Native.Nat.{ℕ, zero, suc, _+_, _≤_, _<_}
 use mathlib.Core.Path.{_≡_, refl, sym, ap, _∙_, subst}
 use mathlib.Core.Bool.{Bool, true, false, not, _&&_, _||_}
-use mathlib.Core.List.{List, [], _∷_}
+use mathlib.Core.List.{List, [], _∷_, _++_}
 use mathlib.Core.Logic.{_⊎_, inl, inr, ⊎-elim}
 use native.Mathlib.Omega.{arith}
 use lib.Dec.{T, eqb, eqb→eq, T-not}
-use Rattle.cases.specs.Cases.{pick, tabulate}
+use Rattle.cases.specs.Cases.{pick}
 use Rattle.cases.proofs.Bools.{and-left, and-right, and-intro, both, or-cases, or-left, or-right}
 use Rattle.protection.specs.Limits.{names}
 use Rattle.protection.specs.State.{Kind, absent, object, subject, isObject, isSubject, State, objectIn, subjectIn}
 use Rattle.protection.specs.Command.{Operation, enter, delete, createSubject, createObject, destroySubject, destroyObject, Actuals}
 use Rattle.protection.specs.Execution.{canDo, sameCell, put, takeOut, renew, effect, canDoAll, effectAll}
 use Rattle.protection.specs.Proper.{Proper}
+use Rattle.commands.specs.Contents.{operationAt, operationsOf, operationsFrom, modelOf, stepOf}
+use Rattle.commands.specs.declared.Command.{Command}
+use Rattle.commands.specs.declared.Operation.{Operation as CodeOperation}
+use Rattle.commands.proofs.Reading.{operations-of}
 
 -- the right that the operation enters is below g, the name that it creates is one of a file
 abbrev pub Sound : ℕ → Actuals → Operation → Type 0
@@ -27,9 +31,13 @@ abbrev pub SoundAll : ℕ → Actuals → List Operation → Type 0
 SoundAll g a [] = Unit {0}
 SoundAll g a (c ∷ cs) = Sound g a c × SoundAll g a cs
 
-pub sound-tabulate : (g : ℕ) (a : Actuals) (f : ℕ → Operation) (n j : ℕ) → ((i : ℕ) → j ≤ i → i < j + n → Sound g a (f i)) → SoundAll g a (tabulate f n j)
-sound-tabulate g a f zero j h = tt
-sound-tabulate g a f (suc n) j h = (h j (omega arith) (omega arith), sound-tabulate g a f n (suc j) (λ i l k. h i (omega arith) (omega arith)))
+-- the steps of a command, each read and sound
+pub sound-steps : (g : ℕ) (a : Actuals) (c : Command) (n j : ℕ) → ((i : ℕ) → j ≤ i → i < j + n → (o : CodeOperation) × (stepOf o ≡ operationAt c i) × Sound g a (modelOf o)) → SoundAll g a (operationsFrom c n j)
+sound-steps g a c zero j h = tt
+sound-steps g a c (suc n) j h =
+    let (o, e, s) = h j (omega arith) (omega arith) in
+    subst (λ (w : List Operation). SoundAll g a (w ++ operationsFrom c n (suc j))) (sym (operations-of o) ∙ ap operationsOf e)
+    (s, sound-steps g a c n (suc j) (λ i l k. h i (omega arith) (omega arith)))
 
 module _ (g : ℕ) (m : State) (P : Proper g m) where
   proper-put : (q s o : ℕ) → q < g → T (subjectIn m s) → T (objectIn m o) → Proper g (put m q s o)

@@ -1,4 +1,4 @@
-use Rattle.closing.proofs.PassedBy.{Concerning, concerning-start, concerning-end, concerning-yes, concerning-no}
+use Rattle.closing.proofs.PassedBy.{concerning-fits, Concerning, concerning-start, concerning-end, concerning-yes, concerning-no}
 use mathlib.Core.Logic.{⊎-elim}
 use Prim.Native.Nat.{_-_}
 use borrow.Author.Needs.{needs}
@@ -34,7 +34,7 @@ element-copy-out-c c = search needs
 
 -- src/lib.rt:97:21
 operation-at-requires : tie.Need-operation-at-requires Inv-loop μ-loop
-operation-at-requires c κs = search needs
+operation-at-requires c κs = concerning-fits _ _ _ _ _ _ (c .before .before .loop .inv) (c .before .loop-test .taken) _ (search needs)
 
 -- src/lib.rt:97:12
 concerns-requires : tie.Need-concerns-requires Inv-loop μ-loop

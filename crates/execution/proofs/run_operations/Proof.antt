@@ -19,7 +19,7 @@ loop-holds : tie.Need-loop-holds Inv-loop μ-loop
 loop-holds c = (omega arith, refl, going-start _ _ _ _ (c .before .pre .0))
 
 operation-at-requires : tie.Need-operation-at-requires Inv-loop μ-loop
-operation-at-requires c κs = omega (arith, c .before .before .before .pre .1 .few)
+operation-at-requires c κs = (c .before .before .before .pre .1 .fits, omega arith)
 
 can-do-requires : tie.Need-can-do-requires Inv-loop μ-loop
 can-do-requires c κs = search applies-at
@@ -40,7 +40,7 @@ loop-less : tie.Need-loop-less Inv-loop μ-loop
 loop-less c = omega arith
 
 loop-again : tie.Need-loop-again Inv-loop μ-loop
-loop-again c = (omega arith, omega arith, going-more _ _ _ _ _ _ _ (c .before .before .before .before .before .before .before .before .before .before .before .loop .inv .2) (omega arith) _ (c .before .before .before .before .before .before .before .before .before .operation-at .ensures) _ (c .before .before .before .before .before .before .can-do .ensures) (c .before .before .before .before .before .before .before .before .before .before .before .before .before .pre .1) (c .before .before .before .before .before .if1 .left) _ (c .before .enters-new .ensures) _ (c .perform .ensures))
+loop-again c = (omega arith, omega arith, going-more _ _ _ _ _ _ _ (c .before .before .before .before .before .before .before .before .before .before .before .loop .inv .2) (omega arith) (c .before .before .before .before .before .before .before .before .before .operation-at .result) (c .before .before .before .before .before .before .before .before .before .operation-at .ensures) _ (c .before .before .before .before .before .before .can-do .ensures) (c .before .before .before .before .before .before .before .before .before .before .before .before .before .pre .1) (c .before .before .before .before .before .if1 .left) _ (c .before .enters-new .ensures) _ (c .perform .ensures))
 
 returns-2 : tie.Need-returns-2 Inv-loop μ-loop
 returns-2 c = search going-end

@@ -1,77 +1,69 @@
-use Rattle.cases.proofs.Picks.{arms}
+use Rattle.commands.proofs.Reading.{said, never-refused}
 use borrow.Author.Needs.{needs}
 use Rattle.commands.proofs.Command.operation_at.Statement.{statement}
 use Rattle.commands.proofs.Command.operation_at.Tie as tie
 
-mul-kind : tie.Need-mul-kind
-mul-kind c = search needs
+step-at-requires : tie.Need-step-at-requires
+step-at-requires c κs = search needs
 
-element-copy-out-kind : tie.Need-element-copy-out-kind
-element-copy-out-kind c = search needs
+enum-known-step : tie.Need-enum-known-step
+enum-known-step c = search needs
 
-mul-right : tie.Need-mul-right
-mul-right c = search needs
+enum-known-step-2 : tie.Need-enum-known-step-2
+enum-known-step-2 c = search needs
 
-add-right : tie.Need-add-right
-add-right c = search needs
+enum-known-step-3 : tie.Need-enum-known-step-3
+enum-known-step-3 c = search needs
 
-element-copy-out-right : tie.Need-element-copy-out-right
-element-copy-out-right c = search needs
+enum-known-step-4 : tie.Need-enum-known-step-4
+enum-known-step-4 c = search needs
 
-mul-first : tie.Need-mul-first
-mul-first c = search needs
+enum-known-step-5 : tie.Need-enum-known-step-5
+enum-known-step-5 c = search needs
 
-add-first : tie.Need-add-first
-add-first c = search needs
+enum-known-step-6 : tie.Need-enum-known-step-6
+enum-known-step-6 c = search needs
 
-element-copy-out-first : tie.Need-element-copy-out-first
-element-copy-out-first c = search needs
-
-mul-second : tie.Need-mul-second
-mul-second c = search needs
-
-add-second : tie.Need-add-second
-add-second c = search needs
-
-element-copy-out-second : tie.Need-element-copy-out-second
-element-copy-out-second c = search needs
+enum-told : tie.Need-enum-told
+enum-told c = search needs
 
 returns : tie.Need-returns
-returns c = search arms depth 8
+returns c = search said
 
 returns-2 : tie.Need-returns-2
-returns-2 c = search arms depth 8
+returns-2 c = search said
 
 returns-3 : tie.Need-returns-3
-returns-3 c = search arms depth 8
+returns-3 c = search said
 
 returns-4 : tie.Need-returns-4
-returns-4 c = search arms depth 8
+returns-4 c = search said
 
 returns-5 : tie.Need-returns-5
-returns-5 c = search arms depth 8
+returns-5 c = search said
 
 returns-6 : tie.Need-returns-6
-returns-6 c = search arms depth 8
+returns-6 c = search said
+
+returns-7 : tie.Need-returns-7
+returns-7 c = search never-refused
 
 pub operation-at-spec : {M : Type 1} → statement M
 operation-at-spec =
     tie.close
     (tie.spec
-    mul-kind
-    element-copy-out-kind
-    mul-right
-    add-right
-    element-copy-out-right
-    mul-first
-    add-first
-    element-copy-out-first
-    mul-second
-    add-second
-    element-copy-out-second
+    step-at-requires
+    enum-known-step
+    enum-known-step-2
+    enum-known-step-3
+    enum-known-step-4
+    enum-known-step-5
+    enum-known-step-6
+    enum-told
     returns
     returns-2
     returns-3
     returns-4
     returns-5
-    returns-6)
+    returns-6
+    returns-7)
