@@ -1,7 +1,7 @@
 /*
  * Tugcaphi: an access matrix after Harrison, Ruzzo and Ullman, and the judge of its leaks, as a library.
  *
- * Four calls on bytes in memory. They open no file, keep nothing between calls, allocate nothing and print nothing. What each
+ * Five calls on bytes in memory. They open no file, keep nothing between calls, allocate nothing and print nothing. What each
  * answers and leaves is proved, for every input: docs/PROVED.md says what that means and what it rests on. docs/FORMAT.md has
  * the house file byte by byte, docs/REFUSALS.md every number by which a call is refused.
  *
@@ -14,16 +14,17 @@
  * What every call promises
  *
  * - It ends, whatever it is given, and reads and writes nothing but what it is lent.
- * - Any bytes are taken as a file, a trace or a buffer, and any number as a rule, a name or a right. What is wrong with them is
- *   the answer: a number of docs/REFUSALS.md, 1 to 9 for the file, 11, 12, 14, 15 and 31 for a rule run or a trace, 21 to 24
- *   for a question to the judge. The first one that applies is given, in the order of that page.
+ * - Any bytes are taken as a file, a trace, a list of cells or a buffer, and any number as a rule, a name or a right. What is
+ *   wrong with them is the answer: a number of docs/REFUSALS.md, 1 to 9 for the file, 11, 12, 14, 15 and 31 for a rule run or
+ *   a trace, 21 to 24 for a question to the judge, 41 for a list of cells. The first one that applies is given, in the order
+ *   of that page.
  * - Refused, it changes no byte of a file or a buffer.
  *
  * What the caller must see to; no call can test it
  *
  * - A pointer is not null and points to as many bytes as its length says, for the whole call; a length of 0 is fine.
  * - What is lent for writing overlaps with nothing else that is lent: the file of access_run; the buffer and the number of
- *   access_judge; the number of access_replay. The number is aligned as a uint64_t is. What is lent for reading alone (const)
+ *   access_judge and access_need; the number of access_replay. The number is aligned as a uint64_t is. What is lent for reading alone (const)
  *   may be one and the same memory.
  * - Nobody writes to what is lent while the call is at work, and nobody reads what is lent for writing. Calls of several threads
  *   at once, each with memory of its own or with memory that is only read, do not touch each other.
@@ -46,6 +47,8 @@ extern "C" {
 #define TUGCAPHI_LEAK 255
 #define TUGCAPHI_SAFE 0     /* access_judge */
 #define TUGCAPHI_UNSAFE 255
+#define TUGCAPHI_NEVER 0    /* access_need */
+#define TUGCAPHI_HELD 255
 
 /*
  * A step of a trace: the rule's number and four names, 255 in the positions behind the rule's blanks, and any byte in a spare
@@ -53,15 +56,20 @@ extern "C" {
  */
 #define TUGCAPHI_STEP 5
 
-/* A buffer of so many bytes is long enough for every judgement: 5 * (8 * 31 * 32 + 4). */
+/* A cell of a list: a right, a subject and a name. A list has at most so many of them. */
+#define TUGCAPHI_CELL 3
+#define TUGCAPHI_CELLS 8
+
+/* A buffer of so many bytes is long enough for access_judge and access_need, whatever the file: 5 * (8 * 31 * 32 + 4). */
 #define TUGCAPHI_BUFFER 39700
 
 /*
  * Bytes of stack that are enough for each call. This is measured and not proved: access_check used about 6,000 bytes, access_run
- * and access_replay 13,500, access_judge 23,500. Each ran in a thread whose stack of 1 MiB was painted with a pattern before, and
- * what had lost its paint afterwards was counted, less what an idle thread uses; on all files of the benchmark and 1,500
- * generated ones, for all rights. The files made no difference: the calls hold arrays of fixed size alone, and recur at most
- * once for each blank of a rule. The tests measure it again, and fail above this number.
+ * and access_replay 13,500, access_judge 24,000, access_need 17,500. Each ran in a thread whose stack of 1 MiB was painted with a
+ * pattern before, and what had lost its paint afterwards was counted, less what an idle thread uses; on all files of the benchmark
+ * and 1,500 generated ones, for all rights, access_need on 420 generated ones with lists of 0, 1 and 8 cells. The files made no
+ * difference: the calls hold arrays of fixed size alone, and recur at most once for each blank of a rule. The tests measure it
+ * again, and fail above this number.
  */
 #define TUGCAPHI_STACK 32768
 
@@ -100,6 +108,19 @@ uint8_t access_replay(const uint8_t *file, size_t length, const uint8_t *trace, 
  */
 uint8_t access_judge(const uint8_t *file, size_t length, uint8_t right, uint8_t *buffer, size_t buffer_length,
                      uint64_t *steps);
+
+/*
+ * Whether all cells of a list can hold their rights at the same moment, as a press needs them. A cell is three bytes, right,
+ * subject and name; the list has at most 8 cells and may have none.
+ *
+ * 255, held: the first 5 * *steps bytes of the buffer are a run, from the file as it is, no step of which is refused and which
+ * ends with all cells held, and no shorter front of it does; *steps is 0 if the file holds them all. 0, never: no run, however
+ * long and with whatever new names, that destroys no name existing in the file ends with all of them held; the first 5 * *steps
+ * bytes of the buffer are the steps by which this was found out. Spare blanks have 0 in them. The rest of the buffer keeps its
+ * bytes. Else the refusal, 1 to 9, 22 to 24 or 41; *steps is 0.
+ */
+uint8_t access_need(const uint8_t *file, size_t length, const uint8_t *cells, size_t cells_length, uint8_t *buffer,
+                    size_t buffer_length, uint64_t *steps);
 
 #ifdef __cplusplus
 }

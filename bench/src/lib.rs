@@ -1,8 +1,11 @@
-//! What the benchmark needs: tables, two judges of its own, and the question
-//! as a logic program. Files are read by the reference of `tests/`.
+//! What the benchmark needs: tables, two judges of its own, the question as a
+//! logic program, what a press needs beside the judge's rounds, and the
+//! measuring. Files are read by the reference of `tests/`.
 
 pub mod families;
 pub mod logic;
+pub mod measure;
 pub mod plain;
+pub mod pressing;
 pub mod pruned;
 pub mod table;

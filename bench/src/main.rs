@@ -1,30 +1,29 @@
 //! Runs the desk program, the plain loops and, where there is one, a solver of
-//! logic programs on the benchmark's tables and prints one table. `README.md`
-//! tells how to read it.
+//! logic programs on the benchmark's tables and prints one table, and a second
+//! one of what a press needs. `README.md` tells how to read them.
 //!
-//! Arguments: the folder to write into, the desk program, the plain program.
+//! Arguments: the folder to write into, the desk program, the plain program, and
+//! the one that makes a single call.
 
 use bench::families::{all, Sample};
+use bench::measure::{fail, instructions, millions, over, run, seconds, time, times, Run};
+use bench::pressing::{self, Pressing};
 use bench::table::{listing, Answer, Table};
 use bench::{logic, pruned};
 use reference::file;
 use std::collections::BTreeMap;
-use std::fs::{self, File};
-use std::io::Read;
+use std::env;
+use std::fs;
 use std::path::{Path, PathBuf};
 use std::process::{Command, Stdio};
-use std::sync::mpsc;
-use std::time::{Duration, Instant};
-use std::{env, process, thread};
+use std::time::Duration;
 
 const SEED: u64 = 20_260_101;
 
 /// Callgrind takes some sixty times as long: what takes longer than `LONG` is
-/// counted for rounds that take `SHORT` together, and no count takes longer
-/// than `CALLGRIND`.
+/// counted for rounds that take `SHORT` together.
 const LONG: Duration = Duration::from_millis(100);
 const SHORT: Duration = Duration::from_millis(30);
-const CALLGRIND: Duration = Duration::from_secs(60);
 
 /// What is to be reached: so many times fewer instructions than the plain loops
 /// on these families, no file longer, and each ahead of the solver.
@@ -37,106 +36,6 @@ struct Bench {
     plain: PathBuf,
     limit: Duration,
     solver: Option<&'static str>,
-}
-
-/// A program's end: what it printed, and how long it took; or the time limit.
-enum Run {
-    Ended(Vec<u8>, Duration),
-    TooLong,
-}
-
-/// Runs a command with its input from a file and its output into one.
-fn run(command: &mut Command, input: &Path, limit: Duration) -> Run {
-    let output = input.with_extension("printed");
-    let into = File::create(&output).expect("a file for the output");
-    command
-        .stdin(File::open(input).expect("the input"))
-        .stdout(into)
-        .stderr(Stdio::null());
-    let begin = Instant::now();
-    let mut child = command
-        .spawn()
-        .unwrap_or_else(|wrong| fail(&format!("{command:?}: {wrong}")));
-    // Looking again and again would add its own waits to short runs.
-    let (ended, end) = mpsc::channel();
-    let number = child.id().to_string();
-    let watch = thread::spawn(move || {
-        let too_long = end.recv_timeout(limit).is_err();
-        if too_long {
-            let _ = Command::new("kill").args(["-9", &number]).status();
-        }
-        too_long
-    });
-    child.wait().expect("the program's end");
-    let took = begin.elapsed();
-    let _ = ended.send(());
-    if watch.join().expect("the watch") {
-        return Run::TooLong;
-    }
-    let mut printed = Vec::new();
-    File::open(&output)
-        .and_then(|mut file| file.read_to_end(&mut printed))
-        .expect("the output");
-    fs::remove_file(&output).expect("removed");
-    Run::Ended(printed, took)
-}
-
-fn fail(wrong: &str) -> ! {
-    eprintln!("bench: {wrong}");
-    process::exit(1);
-}
-
-/// The best of some runs; None past the limit. Prints must be as wanted.
-fn time(program: &Path, input: &Path, limit: Duration, wanted: &str) -> Option<Duration> {
-    let mut best: Option<Duration> = None;
-    let mut spent = Duration::ZERO;
-    for _ in 0..10 {
-        match run(&mut Command::new(program), input, limit) {
-            Run::TooLong => return None,
-            Run::Ended(printed, took) => {
-                if printed != wanted.as_bytes() {
-                    let first = |text: &str| text.lines().next().unwrap_or("").to_string();
-                    fail(&format!(
-                        "{} on {}: printed {}, wanted {}, or another listing",
-                        program.display(),
-                        input.display(),
-                        first(&String::from_utf8_lossy(&printed)),
-                        first(wanted)
-                    ));
-                }
-                best = Some(best.map_or(took, |best| best.min(took)));
-                spent += took;
-                if spent > Duration::from_secs(1) {
-                    break;
-                }
-            }
-        }
-    }
-    best
-}
-
-/// The instructions that callgrind counts; None past its limit.
-fn instructions(program: &Path, rounds: Option<u64>, input: &Path) -> Option<u64> {
-    let counts = input.with_extension("callgrind");
-    let mut command = Command::new("valgrind");
-    command
-        .arg("--tool=callgrind")
-        .arg(format!("--callgrind-out-file={}", counts.display()))
-        .arg(program)
-        .args(rounds.map(|rounds| rounds.to_string()));
-    match run(&mut command, input, CALLGRIND) {
-        Run::TooLong => None,
-        Run::Ended(..) => {
-            let text = fs::read_to_string(&counts).unwrap_or_default();
-            let _ = fs::remove_file(&counts);
-            let total = text.lines().find_map(|line| {
-                line.strip_prefix("summary: ")
-                    .or(line.strip_prefix("totals: "))
-            });
-            let total = total.and_then(|words| words.split_whitespace().next()?.parse().ok());
-            Some(total.unwrap_or_else(|| fail("callgrind gave no count")))
-        }
-    }
 }
 
 impl Bench {
@@ -191,26 +90,9 @@ impl Bench {
         };
         let rounds = 5.0 * SHORT.as_secs_f64() / five.as_secs_f64();
         let rounds = (rounds.ceil() as u64).min(answer.rounds);
-        let count = instructions(&self.plain, Some(rounds), input);
+        let count = instructions(&self.plain, Some(&rounds.to_string()), input);
         (count.map(|count| count * answer.rounds / rounds), "~")
     }
-}
-
-fn seconds(time: Duration) -> String {
-    format!("{:.4}", time.as_secs_f64())
-}
-
-fn over(limit: Duration) -> String {
-    format!(">{}", limit.as_secs())
-}
-
-/// Counts in millions.
-fn millions(count: u64) -> String {
-    format!("{:.2}", count as f64 / 1e6)
-}
-
-fn times(more: f64, less: f64) -> String {
-    format!("{:.0}", more / less)
 }
 
 const HEAD: [&str; 12] = [
@@ -233,8 +115,8 @@ fn print_row(cells: &[String]) {
 
 fn main() {
     let words: Vec<PathBuf> = env::args_os().skip(1).map(PathBuf::from).collect();
-    let [folder, desk, plain] = words.as_slice() else {
-        fail("three arguments: folder, desk program, plain program");
+    let [folder, desk, plain, press] = words.as_slice() else {
+        fail("four arguments: folder, desk program, plain program, press program");
     };
     let limit = env::var("BENCH_LIMIT").map_or(60, |text| {
         text.parse()
@@ -257,6 +139,15 @@ fn main() {
         "seed {SEED}, limit {limit} s, solver {}",
         solver.unwrap_or("none")
     );
+    let pressing = Pressing {
+        folder: folder.clone(),
+        press: press.clone(),
+        limit: bench.limit,
+    };
+    let samples = all(SEED);
+    if env::var("BENCH_ONLY").is_ok_and(|word| word == "press") {
+        return tell(pressing::print(&pressing, &samples), pressing::REACHED);
+    }
     // What starting takes: the empty input.
     let empty = folder.join("empty");
     fs::write(&empty, []).expect("written");
@@ -280,7 +171,7 @@ fn main() {
     println!("|---|---:|---|---:|---:|---:|---:|---:|---:|---:|---:|---:|");
     let mut missed = Vec::new();
     let mut sums: BTreeMap<&str, (u64, u64)> = BTreeMap::new();
-    for sample in all(SEED) {
+    for sample in &samples {
         let bytes = sample.draft.file();
         let contents = file::read(&bytes).expect("an accepted file");
         let judged = sample
@@ -310,7 +201,7 @@ fn main() {
             .map(|(desk, plain)| times(plain as f64, desk as f64));
         let shown = |time: Option<Duration>| time.map_or_else(|| over(bench.limit), seconds);
         let none = || "-".to_string();
-        let (solver_time, solved) = bench.solve(&sample, &contents, answer.is_unsafe);
+        let (solver_time, solved) = bench.solve(sample, &contents, answer.is_unsafe);
         print_row(&[
             sample.name.clone(),
             bytes.len().to_string(),
@@ -360,10 +251,17 @@ fn main() {
             missed.push(format!("{family} in all: less than {FEWER} times"));
         }
     }
+    let all_of =
+        format!("{FEWER} times fewer instructions on {HELD_TO:?}; no file over {LONGEST:?}");
+    tell(missed, &all_of);
+    println!();
+    tell(pressing::print(&pressing, &samples), pressing::REACHED);
+}
+
+/// What was not reached, or that all was.
+fn tell(missed: Vec<String>, all: &str) {
     if missed.is_empty() {
-        println!(
-            "reached: {FEWER} times fewer instructions on {HELD_TO:?}; no file over {LONGEST:?}"
-        );
+        println!("reached: {all}");
     }
     for line in missed {
         println!("missed: {line}");

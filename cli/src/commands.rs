@@ -3,16 +3,19 @@
 pub mod check;
 pub mod judge;
 pub mod make;
+pub mod need;
 pub mod replay;
 pub mod run;
 pub mod show;
 
 use crate::arguments::{Arguments, Choice};
 use crate::failure::Failure;
-use crate::input::Input;
+use crate::input::{shown, Input};
 use crate::json::Json;
+use crate::output::{self, Manner};
 use crate::refused::BadFile;
 use crate::terminal::Style;
+use std::ffi::OsStr;
 
 /// How an answer is to look.
 pub struct View {
@@ -36,6 +39,7 @@ pub struct Answer {
 /// The exit statuses that are answers.
 pub const GOOD: u8 = 0;
 pub const LEAK: u8 = 1;
+pub const NEVER: u8 = 1;
 pub const REFUSED: u8 = 2;
 
 pub struct Command {
@@ -53,11 +57,12 @@ pub struct Command {
     pub run: fn(&Arguments, &View) -> Result<Answer, Failure>,
 }
 
-pub const ALL: [&Command; 6] = [
+pub const ALL: [&Command; 7] = [
     &make::COMMAND,
     &show::COMMAND,
     &check::COMMAND,
     &judge::COMMAND,
+    &need::COMMAND,
     &run::COMMAND,
     &replay::COMMAND,
 ];
@@ -109,7 +114,38 @@ pub fn refused(input: &Input, refusal: u8, view: &View) -> Answer {
     }
 }
 
+/// Writes what an option of a command asks for, if there is something, and says so.
+pub fn put(
+    answer: &mut Answer,
+    command: &Command,
+    arguments: &Arguments,
+    option: &str,
+    content: Option<Vec<u8>>,
+) {
+    let path = arguments.value(option).unwrap_or_default();
+    let Some(content) = content else {
+        let path = shown(path);
+        let note = format!("{path} was not written: a refused question has no steps");
+        return answer.notes.push(note);
+    };
+    match command.write(path, &content, arguments.has("--force")) {
+        Ok(notes) => answer.notes.extend(notes),
+        Err(failure) => answer.failures.push(failure),
+    }
+}
+
 impl Command {
+    fn write(&self, path: &OsStr, content: &[u8], force: bool) -> Result<Vec<String>, Failure> {
+        if path == "-" {
+            let message = format!("{}: standard output is taken by the answer", self.name);
+            return Err(Failure::said(message, "give the path of a file"));
+        }
+        let manner = Manner { force, wait: true };
+        let mut notes = output::write(path, content, &manner)?;
+        notes.push(format!("wrote {}", shown(path)));
+        Ok(notes)
+    }
+
     pub fn choices(&self) -> Vec<&Choice> {
         self.options.iter().chain([&JSON, &HELP]).collect()
     }

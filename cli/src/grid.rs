@@ -1,13 +1,13 @@
 //! The matrix as a grid of words.
 
-use crate::house::House;
+use crate::house::Matrix;
 use crate::terminal::{padded, width};
 use crate::words::Words;
 
 /// Rows of subjects and columns of names, in blocks that are at most `columns` wide if that is given.
-pub fn lines(house: &House, words: &Words, columns: Option<usize>) -> Vec<String> {
-    let subjects = house.matrix.subjects();
-    let names = house.matrix.names();
+pub fn lines(matrix: &Matrix, words: &Words, columns: Option<usize>) -> Vec<String> {
+    let subjects = matrix.subjects();
+    let names = matrix.names();
     if names.is_empty() {
         return vec!["no names".to_string()];
     }
@@ -15,7 +15,7 @@ pub fn lines(house: &House, words: &Words, columns: Option<usize>) -> Vec<String
     let margin = rows.iter().map(|row| width(row)).max().unwrap_or(0);
     let filled: Vec<Vec<String>> = names
         .iter()
-        .map(|&name| column(house, words, &subjects, name))
+        .map(|&name| column(matrix, words, &subjects, name))
         .collect();
     let mut lines = Vec::new();
     for block in blocks(
@@ -45,9 +45,9 @@ pub fn lines(house: &House, words: &Words, columns: Option<usize>) -> Vec<String
 }
 
 /// A column: the name, and the rights of each subject.
-fn column(house: &House, words: &Words, subjects: &[usize], name: usize) -> Vec<String> {
+fn column(matrix: &Matrix, words: &Words, subjects: &[usize], name: usize) -> Vec<String> {
     let cell = |&subject: &usize| {
-        let rights = house.matrix.cell(subject, name).iter();
+        let rights = matrix.cell(subject, name).iter();
         rights
             .map(|right| words.right(right))
             .collect::<Vec<String>>()

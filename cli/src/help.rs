@@ -20,8 +20,8 @@ pub fn program() -> String {
         "\nEach has its own help: tugcaphi judge --help. FILE is a house file, TABLE a table in words; - is\n\
          standard input. Every command takes --json.\n\n\
          exit status:\n\
-         \x20 0  safe, done, accepted, no leak\n\
-         \x20 1  unsafe, or a leak\n\
+         \x20 0  safe, held, done, accepted, no leak\n\
+         \x20 1  unsafe, never held, or a leak\n\
          \x20 2  refused; docs/REFUSALS.md tells every number\n\
          \x20 3  anything else (usage, files), said on standard error with what to do\n\
          Of several answers it is the highest.\n\n\

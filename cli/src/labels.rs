@@ -1,6 +1,6 @@
 //! Rights, names, rules and steps for other programs: numbers, with words beside them.
 
-use crate::house::{Kind, Rule};
+use crate::house::{Kind, Matrix, Rule};
 use crate::json::Json;
 use crate::machine::{Act, Held};
 use crate::story::Done;
@@ -49,6 +49,36 @@ pub fn kind(kind: Kind) -> Json {
         Kind::Object => "object".into(),
         Kind::Subject => "subject".into(),
     }
+}
+
+/// The names of a matrix, with their kind.
+pub fn names(words: &Words, matrix: &Matrix) -> Json {
+    let one = |&number: &usize| {
+        Json::Object(vec![
+            ("name", name(words, number)),
+            ("kind", kind(matrix.kinds[number])),
+        ])
+    };
+    matrix.names().iter().map(one).collect()
+}
+
+/// The cells of a matrix that hold a right.
+pub fn cells(words: &Words, matrix: &Matrix) -> Json {
+    let mut cells = Vec::new();
+    for subject in matrix.subjects() {
+        for object in matrix.names() {
+            let rights = matrix.cell(subject, object);
+            if !rights.is_empty() {
+                let rights = rights.iter().map(|one| right(words, one));
+                cells.push(Json::Object(vec![
+                    ("subject", name(words, subject)),
+                    ("object", name(words, object)),
+                    ("rights", rights.collect()),
+                ]));
+            }
+        }
+    }
+    Json::List(cells)
 }
 
 /// A rule and what its blanks get, one by one.

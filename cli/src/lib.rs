@@ -14,6 +14,7 @@ pub mod labels;
 pub mod library;
 pub mod limits;
 pub mod machine;
+pub mod need;
 pub mod output;
 pub mod picture;
 pub mod program;

@@ -1,5 +1,5 @@
-//! The proved library behind its C boundary (`include/tugcaphi.h`). Every verdict, refusal, replay
-//! and rule run of the program is one of these four answers, decided there and nowhere else.
+//! The proved library behind its C boundary (`include/tugcaphi.h`). Every verdict, refusal, replay,
+//! rule run and answer to a press is one of these five answers, decided there and nowhere else.
 
 #[link(name = "exports", kind = "static")]
 extern "C" {
@@ -21,10 +21,21 @@ extern "C" {
         buffer_length: usize,
         steps: *mut u64,
     ) -> u8;
+    fn access_need(
+        file: *const u8,
+        length: usize,
+        cells: *const u8,
+        cells_length: usize,
+        buffer: *mut u8,
+        buffer_length: usize,
+        steps: *mut u64,
+    ) -> u8;
 }
 
 /// The code of a leak, and of an unsafe table.
 const LEAK: u8 = 255;
+/// The code of cells that can all be held.
+const HELD: u8 = 255;
 
 #[derive(Clone, Copy, Debug, PartialEq, Eq)]
 pub enum Replay {
@@ -42,6 +53,14 @@ pub enum Judgement {
     /// The number of steps at the front of the buffer.
     Safe(u64),
     Unsafe(u64),
+    Refused(u8),
+}
+
+#[derive(Clone, Copy, Debug, PartialEq, Eq)]
+pub enum Need {
+    /// The number of steps at the front of the buffer.
+    Held(u64),
+    Never(u64),
     Refused(u8),
 }
 
@@ -98,5 +117,29 @@ pub fn judge(file: &[u8], right: u8, buffer: &mut [u8]) -> Judgement {
         0 => Judgement::Safe(steps),
         LEAK => Judgement::Unsafe(steps),
         by => Judgement::Refused(by),
+    }
+}
+
+/// Whether all cells, three bytes each, can be held at the same moment. The steps fill the front of the buffer; the
+/// rest of it keeps its bytes.
+pub fn need(file: &[u8], cells: &[u8], buffer: &mut [u8]) -> Need {
+    let mut steps = 0;
+    // SAFETY: pointers and lengths are those of slices that do not overlap; of these only the
+    // buffer, lent for writing, is written. The number of steps is one of our own.
+    let code = unsafe {
+        access_need(
+            file.as_ptr(),
+            file.len(),
+            cells.as_ptr(),
+            cells.len(),
+            buffer.as_mut_ptr(),
+            buffer.len(),
+            &mut steps,
+        )
+    };
+    match code {
+        0 => Need::Never(steps),
+        HELD => Need::Held(steps),
+        by => Need::Refused(by),
     }
 }

@@ -34,3 +34,8 @@ pub const UNUSED: u8 = 255;
 pub const JUDGED_NAMES: usize = 30;
 /// A buffer for the judge, long enough for every file that it takes.
 pub const BUFFER_BYTES: usize = STEP_BYTES * (RIGHTS * (JUDGED_NAMES + 1) * (JUDGED_NAMES + 2) + 4);
+
+/// A press asks for at most 8 cells at once.
+pub const NEEDED_CELLS: usize = 8;
+/// A cell that is asked for: right, subject, name.
+pub const NEEDED_BYTES: usize = 3;

@@ -1,10 +1,11 @@
-//! Why a rule run was refused: which actual, condition or step. The number is the proved library's; the reason is found
-//! beside it and is left out where it belongs to another number.
+//! Why a rule run was refused: which actual, condition or step; and why a list of cells was. The number is the proved
+//! library's; the reason is found beside it and is left out where it belongs to another number.
 
 use crate::count::count;
 use crate::house::{Condition, House, Matrix, Rule};
-use crate::limits::{NAMES, UNUSED};
-use crate::machine::{perform, reachable, Why};
+use crate::limits::{NAMES, NEEDED_BYTES, NEEDED_CELLS, UNUSED};
+use crate::machine::{perform, reachable, Held, Why};
+use crate::need::cells;
 use crate::table::writer;
 use crate::trace::Step;
 use crate::words::Words;
@@ -29,6 +30,40 @@ fn first(house: &House, words: &Words, step: Step) -> Option<(u8, String)> {
     None.or_else(|| run.actuals().map(|reason| (12, reason)))
         .or_else(|| run.conditions().map(|reason| (14, reason)))
         .or_else(|| run.steps().map(|reason| (15, reason)))
+}
+
+/// The reason why a list of cells cannot be asked for, where it is found.
+pub fn of_list(house: &House, words: &Words, list: &[u8]) -> Option<String> {
+    let whole = cells(list);
+    match list.len() % NEEDED_BYTES {
+        1 => return Some("the last cell has a right and neither subject nor name".to_string()),
+        2 => return Some("the last cell has a right and a subject, and no name".to_string()),
+        _ if whole.len() > NEEDED_CELLS => {
+            let cells = count(whole.len(), "cell");
+            return Some(format!("{cells}; a press asks for at most {NEEDED_CELLS}"));
+        }
+        _ => {}
+    }
+    whole.iter().find_map(|&cell| not_there(house, words, cell))
+}
+
+/// What of a cell is not there.
+fn not_there(house: &House, words: &Words, (right, subject, name): Held) -> Option<String> {
+    let rights = count(house.rights, "right");
+    if right >= house.rights {
+        return Some(format!(
+            "there is no right {right}: the file has {rights}, from 0 on"
+        ));
+    }
+    let cell = words.cell(subject, name);
+    if let Some(above) = [subject, name].into_iter().find(|&one| one >= NAMES) {
+        let most = NAMES - 1;
+        return Some(format!(
+            "the cell {cell}: {above} is no name; names are 0 to {most}"
+        ));
+    }
+    let why = reachable(&house.matrix, subject, name).err()?;
+    Some(format!("the cell {cell}: {}", because(why, words)))
 }
 
 fn no_rule(house: &House, rule: u8) -> String {

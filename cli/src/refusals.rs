@@ -38,7 +38,7 @@ const fn refusal(
     }
 }
 
-pub const ALL: [Refusal; 18] = [
+pub const ALL: [Refusal; 19] = [
     refusal(
         1,
         WRITER,
@@ -159,5 +159,13 @@ pub const ALL: [Refusal; 18] = [
         RUNNER,
         "the length of the trace is no multiple of 5",
         "see that this is the trace meant, and that it was copied whole; a step has 5 bytes",
+    ),
+    refusal(
+        41,
+        ASKER,
+        "the list of cells is not whole, has more than 8, or has a cell with a right that is not \
+         there, a first name that is no subject, or a second that does not exist",
+        "give a right, a subject and a name for each of at most 8 cells; what the rules would \
+         have to create first cannot be asked for",
     ),
 ];

@@ -1,5 +1,6 @@
 //! The brute search: all states that runs over a small pool of names reach,
-//! with destroys and creation anew, and whether one of those runs leaks.
+//! with destroys and creation anew; whether one of those runs leaks, and whether
+//! one of those states holds the cells that a press needs.
 //!
 //! It knows nothing of the judge's argument. A refused rule run leaves the
 //! state, so it adds no state and no leak; a leak that needs no name outside
@@ -8,6 +9,7 @@
 
 use crate::file::{Contents, Rule, Step};
 use crate::machine::{AccessMatrix, Bounded, Kind};
+use crate::need::Cell;
 use std::collections::HashSet;
 use std::hash::{BuildHasherDefault, Hasher};
 
@@ -231,12 +233,18 @@ pub struct Search {
     pub recreated: bool,
 }
 
+/// The start's names, and `further` absent ones behind them.
+fn pool(matrix: &Bounded, further: usize) -> Vec<u64> {
+    let mut pool = matrix.names();
+    pool.extend((0..32).filter(|&name| !matrix.exists(name)).take(further));
+    pool
+}
+
 /// Searches over the start's names and `further` absent ones.
 pub fn search(contents: &Contents, right: u8, further: usize, limit: usize) -> Search {
     assert!(contents.rights as usize <= RIGHTS);
     let matrix = &contents.matrix;
-    let mut pool = matrix.names();
-    pool.extend((0..32).filter(|&name| !matrix.exists(name)).take(further));
+    let pool = pool(matrix, further);
     let instances = instances(&contents.rules, pool.len());
 
     let start = State::start(matrix, &pool);
@@ -278,6 +286,67 @@ pub fn search(contents: &Contents, right: u8, further: usize, limit: usize) -> S
         }
     }
     search
+}
+
+/// Which runs are looked at: all, or those that destroy no name of the start.
+#[derive(Clone, Copy, PartialEq, Eq)]
+pub enum Runs {
+    All,
+    Keeping,
+}
+
+/// The states that runs reach.
+pub struct Reached {
+    pool: Vec<u64>,
+    pub states: Vec<State>,
+}
+
+impl Reached {
+    /// Over the start's names and `further` absent ones; None past the limit.
+    pub fn from(contents: &Contents, runs: Runs, further: usize, limit: usize) -> Option<Reached> {
+        assert!(contents.rights as usize <= RIGHTS);
+        let pool = pool(&contents.matrix, further);
+        let start = State::start(&contents.matrix, &pool);
+        let mut instances = instances(&contents.rules, pool.len());
+        // A name of the start that is never destroyed exists all along.
+        let destroys = |instance: &Instance| match instance.operation {
+            Operation::Destroy(name) => start.exists >> name & 1 == 1,
+            _ => false,
+        };
+        instances.retain(|instance| runs == Runs::All || !destroys(instance));
+        let mut seen: HashSet<State, BuildHasherDefault<Mixer>> = HashSet::from_iter([start]);
+        let mut states = vec![start];
+        let mut at = 0;
+        while let Some(&state) = states.get(at) {
+            at += 1;
+            for instance in &instances {
+                let (Move::To(after) | Move::Leak(_, after)) = instance.run(&state) else {
+                    continue;
+                };
+                if seen.insert(after) {
+                    states.push(after);
+                }
+            }
+            if states.len() > limit {
+                return None;
+            }
+        }
+        Some(Reached { pool, states })
+    }
+
+    /// Whether some state holds all cells, which are of names of the start.
+    pub fn some_holds(&self, cells: &[Cell]) -> bool {
+        let place = |name: u8| {
+            let found = self.pool.iter().position(|&one| one == u64::from(name));
+            found.expect("a name of the start")
+        };
+        let mut wanted = [0; RIGHTS];
+        for cell in cells {
+            wanted[usize::from(cell.right)] |= 1 << (8 * place(cell.subject) + place(cell.name));
+        }
+        let holds = |state: &State| (0..RIGHTS).all(|r| state.cells[r] & wanted[r] == wanted[r]);
+        self.states.iter().any(holds)
+    }
 }
 
 /// A quick hash; the standard one takes most of the search's time.

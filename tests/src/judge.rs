@@ -1,7 +1,9 @@
-//! The leak judge, place by place as document 01's loops say.
+//! The leak judge: the rounds until the right is entered, then the closing
+//! search.
 
 use crate::file::{self, Contents, Rule, Step, NAMES};
 use crate::machine::{run, AccessMatrix, Bounded};
+use crate::rounds::{all_names, refusal, Listing, Places, Rounds};
 
 pub const SAFE: u8 = 0;
 pub const UNSAFE: u8 = 255;
@@ -19,13 +21,6 @@ pub struct Account {
     pub closing: bool,
 }
 
-/// The bound on the judge's steps.
-pub fn most_steps(contents: &Contents) -> usize {
-    let subjects = contents.matrix.subjects().len();
-    let names = contents.matrix.names().len();
-    contents.rights as usize * (subjects + 1) * (names + 2) + 4
-}
-
 pub fn judge(file: &[u8], right: u8, buffer: &mut [u8]) -> Account {
     let refused = |code: u8| Account {
         code,
@@ -41,107 +36,23 @@ pub fn judge(file: &[u8], right: u8, buffer: &mut [u8]) -> Account {
     if right >= contents.rights {
         return refused(21);
     }
-    if contents.rules.iter().any(|rule| rule.steps.len() > 1) {
-        return refused(22);
+    if let Err(refusal) = refusal(&contents, buffer.len()) {
+        return refused(refusal);
     }
-    if contents.matrix.names().len() > 30 {
-        return refused(23);
-    }
-    if buffer.len() < 5 * most_steps(&contents) {
-        return refused(24);
-    }
-    let mut listing = Listing {
-        rules: &contents.rules,
-        buffer,
-        steps: 0,
-        spare: 0,
-    };
-    search(&contents, right, &mut listing)
-}
-
-/// The steps written so far, at the buffer's front.
-struct Listing<'a> {
-    rules: &'a [Rule],
-    buffer: &'a mut [u8],
-    steps: u64,
-    spare: u64,
-}
-
-impl Listing<'_> {
-    fn write(&mut self, rule: usize, actuals: [u64; 4]) {
-        let at = 5 * self.steps as usize;
-        self.buffer[at] = rule as u8;
-        self.buffer[at + 1..at + 5].copy_from_slice(&actuals.map(|actual| actual as u8));
-        self.steps += 1;
-        self.spare += u64::from(!self.rules[rule].spare.is_empty());
-    }
-}
-
-fn search(contents: &Contents, right: u8, listing: &mut Listing) -> Account {
-    let rules = &contents.rules;
-    let mut state = contents.matrix.clone();
-    let mut subject_created = false;
-    let mut object_created = false;
-    let mut rounds = 0;
-    loop {
-        rounds += 1;
-        let mut nothing_done = true;
-        for (number, rule) in rules.iter().enumerate() {
-            let step = rule.steps[0];
-            if !matches!(
-                step,
-                Step::Enter { .. } | Step::CreateSubject(_) | Step::CreateObject(_)
-            ) {
-                continue;
-            }
-            let mut choices = all_names(rule);
-            if let Some(created) = step.created() {
-                // Taken once, here; no absent name leaves no actuals.
-                choices[created] = Vec::from_iter(state.lowest_absent());
-            }
-            for actuals in Places::new(choices) {
-                let Ok(done) = run(&state, rules, number as u64, actuals) else {
-                    continue;
-                };
-                let useful = match step {
-                    Step::Enter { .. } => done.leaked != 0,
-                    Step::CreateSubject(_) => !subject_created,
-                    Step::CreateObject(_) => !object_created,
-                    _ => false,
-                };
-                if !useful {
-                    continue;
-                }
-                state = done.after;
-                listing.write(number, actuals);
-                nothing_done = false;
-                match step {
-                    Step::CreateSubject(_) => subject_created = true,
-                    Step::CreateObject(_) => object_created = true,
-                    _ => {}
-                }
-                if done.leaked >> right & 1 == 1 {
-                    return Account {
-                        code: UNSAFE,
-                        steps: listing.steps,
-                        spare: listing.spare,
-                        rounds,
-                        closing: false,
-                    };
-                }
-            }
-        }
-        if nothing_done {
-            break;
-        }
-    }
-
-    let closing = close(contents, &state, right, listing);
+    let mut listing = Listing::new(&contents.rules, buffer);
+    let rounds = Rounds::run(&contents, &mut listing, |done| {
+        done.leaked >> right & 1 == 1
+    });
+    let closing = !rounds.ended && close(&contents, &rounds.state, right, &mut listing);
     Account {
-        code: if closing { UNSAFE } else { SAFE },
+        code: if rounds.ended || closing {
+            UNSAFE
+        } else {
+            SAFE
+        },
         steps: listing.steps,
         spare: listing.spare,
-        rounds,
+        rounds: rounds.count,
         closing,
     }
 }
@@ -206,54 +117,4 @@ fn first_allowed(
         }
     }
     None
-}
-
-/// The names 0 to 31 for each blank, 0 alone for a spare one, 255 for each
-/// position from k on.
-fn all_names(rule: &Rule) -> [Vec<u64>; 4] {
-    std::array::from_fn(|position| {
-        if rule.spare.contains(&position) {
-            vec![0]
-        } else if position < rule.blanks {
-            (0..NAMES as u64).collect()
-        } else {
-            vec![255]
-        }
-    })
-}
-
-/// All actuals out of the choices, the first blank slowest.
-struct Places {
-    choices: [Vec<u64>; 4],
-    next: Option<[usize; 4]>,
-}
-
-impl Places {
-    fn new(choices: [Vec<u64>; 4]) -> Places {
-        let some = choices.iter().all(|names| !names.is_empty());
-        Places {
-            choices,
-            next: some.then_some([0; 4]),
-        }
-    }
-}
-
-impl Iterator for Places {
-    type Item = [u64; 4];
-
-    fn next(&mut self) -> Option<[u64; 4]> {
-        let now = self.next?;
-        let actuals = std::array::from_fn(|i| self.choices[i][now[i]]);
-        let mut after = now;
-        self.next = None;
-        for position in (0..4).rev() {
-            if after[position] + 1 < self.choices[position].len() {
-                after[position] += 1;
-                self.next = Some(after);
-                break;
-            }
-            after[position] = 0;
-        }
-        Some(actuals)
-    }
 }

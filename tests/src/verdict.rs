@@ -3,10 +3,11 @@
 
 use crate::file;
 use crate::generate::job_number;
-use crate::judge::{judge, most_steps, Account, SAFE, UNSAFE};
+use crate::judge::{judge, Account, SAFE, UNSAFE};
 use crate::random::Random;
 use crate::replay::{play_unbounded, Outcome, LEAK};
 use crate::report::{hex, Group};
+use crate::rounds::most_steps;
 
 /// What is under test: the judge, and the replay that its steps must pass.
 #[derive(Clone, Copy)]

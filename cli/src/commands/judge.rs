@@ -1,14 +1,13 @@
 //! `judge`: can a right come into a cell that lacks it, and by which steps.
 
-use super::{Answer, Command, View, FORCE, GOOD, LEAK, NAMES, REFUSED};
+use super::{put, Answer, Command, View, FORCE, GOOD, LEAK, NAMES, REFUSED};
 use crate::arguments::{Arguments, Choice};
 use crate::failure::Failure;
 use crate::input::{self, Content, Input};
-use crate::output::{self, Manner};
 use crate::picture;
 use crate::report;
 use crate::verdict::{self, json, text, Ruling, Verdict};
-use std::ffi::{OsStr, OsString};
+use std::ffi::OsString;
 
 pub const COMMAND: Command = Command {
     name: "judge",
@@ -71,23 +70,9 @@ fn run(arguments: &Arguments, view: &View) -> Result<Answer, Failure> {
         ..Answer::default()
     };
     for (option, content) in outputs(arguments, &input, content, &verdicts)? {
-        put(&mut answer, arguments, option, content);
+        put(&mut answer, &COMMAND, arguments, option, content);
     }
     Ok(answer)
-}
-
-/// Writes what an option asks for, if there is something, and says so.
-fn put(answer: &mut Answer, arguments: &Arguments, option: &str, content: Option<Vec<u8>>) {
-    let path = arguments.value(option).unwrap_or_default();
-    let Some(content) = content else {
-        let path = input::shown(path);
-        let note = format!("{path} was not written: a refused question has no steps");
-        return answer.notes.push(note);
-    };
-    match write(path, &content, arguments.has("--force")) {
-        Ok(notes) => answer.notes.extend(notes),
-        Err(failure) => answer.failures.push(failure),
-    }
 }
 
 /// The rights that are given, or every right.
@@ -142,18 +127,4 @@ fn outputs(
         outputs.push(("--report", Some(page.into_bytes())));
     }
     Ok(outputs)
-}
-
-fn write(path: &OsStr, content: &[u8], force: bool) -> Result<Vec<String>, Failure> {
-    if path == "-" {
-        let advice = "give the path of a file";
-        return Err(Failure::said(
-            "judge: standard output is taken by the verdicts",
-            advice,
-        ));
-    }
-    let manner = Manner { force, wait: true };
-    let mut notes = output::write(path, content, &manner)?;
-    notes.push(format!("wrote {}", input::shown(path)));
-    Ok(notes)
 }

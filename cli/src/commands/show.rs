@@ -43,7 +43,7 @@ fn text(content: &Content, view: &View) -> String {
     // The grid stands behind "# ".
     let columns = view.columns.map(|columns| columns.saturating_sub(2));
     text.push_str(&format!("{mark}\n"));
-    for line in grid::lines(&content.house, &content.words, columns) {
+    for line in grid::lines(&content.house.matrix, &content.words, columns) {
         text.push_str(format!("{mark} {line}").trim_end());
         text.push('\n');
     }
@@ -54,41 +54,15 @@ fn json(input: &Input, content: &Content) -> Vec<(&'static str, Json)> {
     let Content { house, words } = content;
     let rights = (0..house.rights).map(|right| labels::right(words, right));
     let rules = (0..house.rules.len()).map(|rule| rule_json(content, rule));
-    let name = |&name: &usize| {
-        Json::Object(vec![
-            ("name", labels::name(words, name)),
-            ("kind", labels::kind(house.matrix.kinds[name])),
-        ])
-    };
     vec![
         ("input", input.json()),
         ("answer", "shown".into()),
         ("rights", rights.collect()),
-        ("names", house.matrix.names().iter().map(name).collect()),
-        ("cells", cells_json(content)),
+        ("names", labels::names(words, &house.matrix)),
+        ("cells", labels::cells(words, &house.matrix)),
         ("rules", rules.collect()),
         ("text", writer::write(house, words).into()),
     ]
-}
-
-/// The cells that hold a right.
-fn cells_json(content: &Content) -> Json {
-    let Content { house, words } = content;
-    let mut cells = Vec::new();
-    for subject in house.matrix.subjects() {
-        for object in house.matrix.names() {
-            let rights = house.matrix.cell(subject, object);
-            if !rights.is_empty() {
-                let rights = rights.iter().map(|right| labels::right(words, right));
-                cells.push(Json::Object(vec![
-                    ("subject", labels::name(words, subject)),
-                    ("object", labels::name(words, object)),
-                    ("rights", rights.collect()),
-                ]));
-            }
-        }
-    }
-    Json::List(cells)
 }
 
 fn rule_json(content: &Content, number: usize) -> Json {

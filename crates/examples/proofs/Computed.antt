@@ -14,8 +14,9 @@ use Rattle.policy.specs.Refusals.{commandsRefusal}
 use Rattle.policy.specs.Contents.{commandTable, policyOf, written}
 use Rattle.trace.specs.Replays.{replayFrom}
 use Rattle.safety.specs.Judgement.{callerRefusal}
+use Rattle.needs.specs.Needed.{listRefusal}
 use Rattle.listing.specs.Listing.{digits}
 
 unfoldable pub computed : Unit {0}
-unfolding stepRead iterate all number lowestAbsent rounds count judge kindsOf cellsOf cellFits matrixRefusal startOf headerRefusal pairsRefusal sizesRefusal conditionFits operationFits commandRefusal commandOf commandsRefusal commandTable policyOf written replayFrom callerRefusal digits
+unfolding stepRead iterate all number lowestAbsent rounds count judge kindsOf cellsOf cellFits matrixRefusal startOf headerRefusal pairsRefusal sizesRefusal conditionFits operationFits commandRefusal commandOf commandsRefusal commandTable policyOf written replayFrom callerRefusal listRefusal digits
 computed = tt

@@ -22,9 +22,13 @@ use Rattle.trace.specs.declared.Replay.the-variants.{NoLeak, Leak, Refused as R
 use Rattle.safety.specs.Judgement.{callerRefusal, judgeRefusal, fileVerdict, judgementOf, fileJudgement, filled, fileBuffer}
 use Rattle.safety.specs.declared.Judgement.{Judgement}
 use Rattle.safety.specs.declared.Judgement.the-variants.{Refused, Safe, Unsafe}
+use Rattle.questions.specs.Refusals.{sizeRefusal}
+use Rattle.needs.specs.Needed.{listRefusal, needRefusal, fileRounds, needOf, fileNeed, needBuffer}
+use Rattle.needs.specs.declared.Need.{Need}
+use Rattle.needs.specs.declared.Need.the-variants.{Refused as NeedRefused, Held, Never}
 use Rattle.listing.specs.Listing.{printed, bufferBytes, listing}
 use Rattle.examples.specs.Build.{joined}
-use Rattle.examples.specs.Cases.{Case, checks, runs, replays, judges, prints, Holds, Row, AllHold}
+use Rattle.examples.specs.Cases.{Case, checks, runs, replays, judges, needs, prints, Holds, Row, AllHold}
 use Rattle.examples.proofs.Walk.{walkedRefusal, refusal-walked}
 
 -- ---- equality, as a test
@@ -84,6 +88,28 @@ same-judgement (Unsafe n) (Refused m) t = absurd t
 same-judgement (Unsafe n) (Safe m) t = absurd t
 same-judgement (Unsafe n) (Unsafe m) t = ap Unsafe (eqb→eq n m t)
 
+abbrev sameNeed : Need → Need → Bool
+sameNeed (NeedRefused n) (NeedRefused m) = eqb n m
+sameNeed (NeedRefused n) (Held m) = false
+sameNeed (NeedRefused n) (Never m) = false
+sameNeed (Held n) (NeedRefused m) = false
+sameNeed (Held n) (Held m) = eqb n m
+sameNeed (Held n) (Never m) = false
+sameNeed (Never n) (NeedRefused m) = false
+sameNeed (Never n) (Held m) = false
+sameNeed (Never n) (Never m) = eqb n m
+
+same-need : (a b : Need) → T (sameNeed a b) → a ≡ b
+same-need (NeedRefused n) (NeedRefused m) t = ap NeedRefused (eqb→eq n m t)
+same-need (NeedRefused n) (Held m) t = absurd t
+same-need (NeedRefused n) (Never m) t = absurd t
+same-need (Held n) (NeedRefused m) t = absurd t
+same-need (Held n) (Held m) t = ap Held (eqb→eq n m t)
+same-need (Held n) (Never m) t = absurd t
+same-need (Never n) (NeedRefused m) t = absurd t
+same-need (Never n) (Held m) t = absurd t
+same-need (Never n) (Never m) t = ap Never (eqb→eq n m t)
+
 -- ---- the calls, with a number z in place of the file's refusal
 abbrev codeAt : ℕ → List ℕ → Call → ℕ
 codeAt z f x = orElse z (codeOf (fileOutcome f x))
@@ -108,6 +134,15 @@ judgementAt z f r n = pick (eqb (judgeRefusalAt z f r n) 0) (judgementOf (fileVe
 abbrev bufferAt : ℕ → List ℕ → ℕ → List ℕ → List ℕ
 bufferAt z f r b = pick (eqb (judgeRefusalAt z f r (length b)) 0) (filled (fileVerdict f r .steps) b) b
 
+abbrev needRefusalAt : ℕ → List ℕ → List ℕ → ℕ → ℕ
+needRefusalAt z f l n = orElse z (orElse (sizeRefusal (fileSystem f) (fileState f) n) (listRefusal (fileSystem f) (fileState f) l))
+
+abbrev needAt : ℕ → List ℕ → List ℕ → ℕ → Need
+needAt z f l n = pick (eqb (needRefusalAt z f l n) 0) (needOf (fileRounds f l)) (NeedRefused (needRefusalAt z f l n))
+
+abbrev needBufferAt : ℕ → List ℕ → List ℕ → List ℕ → List ℕ
+needBufferAt z f l b = pick (eqb (needRefusalAt z f l (length b)) 0) (filled (fileRounds f l .steps) b) b
+
 abbrev listingAt : ℕ → List ℕ → List ℕ
 listingAt z [] = listing []
 listingAt z (r ∷ f) = printed (policyOf f) (judgementAt z f r bufferBytes) (fileVerdict f r .steps)
@@ -122,6 +157,7 @@ fileIn (checks f n) = f
 fileIn (runs f x n f') = f
 fileIn (replays f t r answer) = f
 fileIn (judges f r b answer b') = f
+fileIn (needs f l b answer b') = f
 fileIn (prints input out) = behind input
 
 abbrev testAt : ℕ → Case → Bool
@@ -129,6 +165,7 @@ testAt z (checks f n) = eqb n z
 testAt z (runs f x n f') = eqb n (codeAt z f x) && sameBytes f' (fileAt z f x)
 testAt z (replays f t r answer) = sameReplay answer (replayAt z f t r)
 testAt z (judges f r b answer b') = sameJudgement answer (judgementAt z f r (length b)) && sameBytes b' (bufferAt z f r b)
+testAt z (needs f l b answer b') = sameNeed answer (needAt z f l (length b)) && sameBytes b' (needBufferAt z f l b)
 testAt z (prints input out) = sameBytes out (listingAt z input)
 
 printed-is : (input : List ℕ) → listingAt (refusal (behind input)) input ≡ listing input
@@ -137,7 +174,7 @@ printed-is [] = refl
 printed-is (r ∷ f) = refl
 
 holds : (c : Case) → T (testAt (refusal (fileIn c)) c) → Holds c
-unfolding runCode runFile fileReplay judgeRefusal fileJudgement fileBuffer
+unfolding runCode runFile fileReplay judgeRefusal fileJudgement fileBuffer needRefusal fileNeed needBuffer
 holds (checks f n) t = eqb→eq n (refusal f) t
 holds (runs f x n f') t =
     let a = eqb n (codeAt (refusal f) f x) in
@@ -148,6 +185,10 @@ holds (judges f r b answer b') t =
     let c = sameJudgement answer (judgementAt (refusal f) f r (length b)) in
     let d = sameBytes b' (bufferAt (refusal f) f r b) in
     record { answer-is = same-judgement answer (judgementAt (refusal f) f r (length b)) (and-left c d t); buffer-is = same-bytes b' (bufferAt (refusal f) f r b) (and-right c d t) }
+holds (needs f l b answer b') t =
+    let c = sameNeed answer (needAt (refusal f) f l (length b)) in
+    let d = sameBytes b' (needBufferAt (refusal f) f l b) in
+    record { answer-is = same-need answer (needAt (refusal f) f l (length b)) (and-left c d t); buffer-is = same-bytes b' (needBufferAt (refusal f) f l b) (and-right c d t) }
 holds (prints input out) t = same-bytes out (listingAt (refusal (behind input)) input) t ∙ printed-is input
 
 -- ---- the rows that fail

@@ -5,4 +5,5 @@ pub mod Files
 pub mod Runs
 pub mod Replays
 pub mod Judgements
+pub mod Needs
 pub mod Table

@@ -11,16 +11,19 @@ use Rattle.trace.specs.declared.Replay.{Replay}
 use Rattle.trace.specs.declared.Replay.the-variants.{NoLeak, Leak, Refused as RefusedAt}
 use Rattle.safety.specs.declared.Judgement.{Judgement}
 use Rattle.safety.specs.declared.Judgement.the-variants.{Refused, Safe, Unsafe}
+use Rattle.needs.specs.declared.Need.{Need}
+use Rattle.needs.specs.declared.Need.the-variants.{Refused as NeedRefused, Held, Never}
 use Rattle.examples.specs.Build.{joined}
-use Rattle.examples.specs.Cases.{Case, checks, runs, replays, judges, prints, Row, rowNames, AllHold}
+use Rattle.examples.specs.Cases.{Case, checks, runs, replays, judges, needs, prints, Row, rowNames, AllHold}
 use Rattle.examples.specs.Slips.{slipCases}
 use Rattle.examples.specs.Files.{headerCases, matrixCases, ruleCases}
 use Rattle.examples.specs.Runs.{refusedCases, doneCases}
 use Rattle.examples.specs.Replays.{replayCases}
 use Rattle.examples.specs.Judgements.{callerCases, roundCases, createCases, closingCases}
+use Rattle.examples.specs.Needs.{needCases}
 
 abbrev pub parts : List (List Row)
-parts = slipCases ∷ headerCases ∷ matrixCases ∷ ruleCases ∷ refusedCases ∷ doneCases ∷ replayCases ∷ callerCases ∷ roundCases ∷ createCases ∷ closingCases ∷ []
+parts = slipCases ∷ headerCases ∷ matrixCases ∷ ruleCases ∷ refusedCases ∷ doneCases ∷ replayCases ∷ callerCases ∷ roundCases ∷ createCases ∷ closingCases ∷ needCases ∷ []
 
 abbrev pub table : List Row
 table = joined parts
@@ -199,11 +202,36 @@ required =
     "judge: the closing search with a spare blank" ∷
     "judge: the first of the allowed actuals" ∷
     "judge: the closing search behind the rounds" ∷
+    "need: 5 before 22" ∷
+    "need: 22, before 23" ∷
+    "need: 23, 31 names, before 24" ∷
+    "need: 24, 339 bytes, before 41" ∷
+    "need: 41, one byte" ∷
+    "need: 41, 5 bytes" ∷
+    "need: 8 cells" ∷
+    "need: 41, 9 cells" ∷
+    "need: 41, right g" ∷
+    "need: 41, right g in the last of two cells" ∷
+    "need: 41, an object as first name" ∷
+    "need: an object as second name" ∷
+    "need: 41, an absent first name" ∷
+    "need: 41, an absent second name" ∷
+    "need: names 31" ∷
+    "need: 41, 32 as first name" ∷
+    "need: 41, 32 as second name" ∷
+    "need: the empty list" ∷
+    "need: held at the start" ∷
+    "need: held after two steps, the enter before them ends nothing" ∷
+    "need: a cell is no other one turned round" ∷
+    "need: all cells, not one of them" ∷
+    "need: held after a create" ∷
+    "need: never, one of two cells cannot come" ∷
+    "need: never, no rule" ∷
     []
 
--- every refusal of document 01 is the answer of some row; 13 is given by nobody since document 02, C-11
+-- every refusal of document 01 and of document 02 as far as it is built is the answer of some row; 13 is given by nobody since document 02, C-11
 abbrev pub refusals : List ℕ
-refusals = 1 ∷ 2 ∷ 3 ∷ 4 ∷ 5 ∷ 6 ∷ 7 ∷ 8 ∷ 9 ∷ 11 ∷ 12 ∷ 14 ∷ 15 ∷ 21 ∷ 22 ∷ 23 ∷ 24 ∷ 31 ∷ []
+refusals = 1 ∷ 2 ∷ 3 ∷ 4 ∷ 5 ∷ 6 ∷ 7 ∷ 8 ∷ 9 ∷ 11 ∷ 12 ∷ 14 ∷ 15 ∷ 21 ∷ 22 ∷ 23 ∷ 24 ∷ 31 ∷ 41 ∷ []
 
 abbrev pub replayRefused : Replay → ℕ
 replayRefused NoLeak = 0
@@ -215,12 +243,18 @@ judgementRefused (Refused n) = n
 judgementRefused (Safe n) = 0
 judgementRefused (Unsafe n) = 0
 
+abbrev pub needRefusedBy : Need → ℕ
+needRefusedBy (NeedRefused n) = n
+needRefusedBy (Held n) = 0
+needRefusedBy (Never n) = 0
+
 -- the refusal that a row answers; 0 for none
 abbrev pub refusedBy : Case → ℕ
 refusedBy (checks f n) = n
 refusedBy (runs f x n f') = n
 refusedBy (replays f t r answer) = replayRefused answer
 refusedBy (judges f r b answer b') = judgementRefused answer
+refusedBy (needs f l b answer b') = needRefusedBy answer
 refusedBy (prints input out) = 0
 
 abbrev pub answered : ℕ → List Row → Bool

@@ -1,4 +1,4 @@
--- The enums of a replay's and of the judge's answer as the two numbers of the boundary. Assumes nothing.
+-- The enums of a replay's, of the judge's and of a need's answer as the two numbers of the boundary. Assumes nothing.
 use Prim.Native.Nat.{ℕ}
 use mathlib.Core.List.{List}
 use lib.ListN.{length}
@@ -10,7 +10,11 @@ use Rattle.safety.specs.Judgement.{fileJudgement, judgementCode, Judged}
 use Rattle.safety.specs.declared.Judgement.{Judgement}
 use Rattle.safety.specs.declared.Judgement.the-variants.{Refused as Refuses, Safe, Unsafe}
 use Rattle.exports.specs.Replay.{ReplayAnswer}
+use Rattle.needs.specs.Needed.{fileNeed, needCode, stepsTaken, Needed}
+use Rattle.needs.specs.declared.Need.{Need}
+use Rattle.needs.specs.declared.Need.the-variants.{Refused as Declined, Held, Never}
 use Rattle.exports.specs.Judge.{JudgeAnswer}
+use Rattle.exports.specs.Need.{NeedAnswer}
 
 module _ (a x : Replay) (e : x ≡ a) where
   pub no-leak : x ≡ NoLeak → ReplayAnswer a 0 0
@@ -36,3 +40,18 @@ module _ (f : List ℕ) (right : ℕ) (b b' : List ℕ) (j : Judgement) (J : Jud
 
   pub judge-unsafe : (n : ℕ) → j ≡ Unsafe n → JudgeAnswer f right b 255 n b'
   judge-unsafe n = judges (Unsafe n)
+
+module _ (f l b b' : List ℕ) (j : Need) (J : Needed f l b j b') where
+  needs-are : (i : Need) → j ≡ i → NeedAnswer f l b (needCode i) (stepsTaken i) b'
+  needs-are i d =
+      let e : i ≡ fileNeed f l (length b) = sym d ∙ J .answer-is in
+      record { code = ap needCode e; written = ap stepsTaken e; needed = subst (λ (x : Need). Needed f l b x b') (J .answer-is) J }
+
+  pub need-refuses : (n : ℕ) → j ≡ Declined n → NeedAnswer f l b n 0 b'
+  need-refuses n = needs-are (Declined n)
+
+  pub need-holds : (n : ℕ) → j ≡ Held n → NeedAnswer f l b 255 n b'
+  need-holds n = needs-are (Held n)
+
+  pub need-never : (n : ℕ) → j ≡ Never n → NeedAnswer f l b 0 n b'
+  need-never n = needs-are (Never n)

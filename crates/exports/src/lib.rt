@@ -5,6 +5,8 @@ ghost use Rattle.update.specs.Files.{FileRun};
 ghost use Rattle.trace.specs.Replays.{fileReplay};
 ghost use Rattle.exports.specs.Replay.{ReplayAnswer};
 ghost use Rattle.exports.specs.Judge.{JudgeAnswer};
+ghost use Rattle.exports.specs.Need.{NeedAnswer};
+use needs::Need;
 use safety::Judgement;
 use trace::Replay;
 
@@ -25,10 +27,12 @@ pub extern "C" fn access_run(file: &mut [u8], command: u8, a0: u8, a1: u8, a2: u
     update::run(file, command, a0, a1, a2, a3)
 }
 
-// The answers for a leak: a replay's, and the judge's.
+// The answers for a leak: a replay's, and the judge's; and for a need that is met.
 const LEAK: u8 = 255;
 
 const UNSAFE: u8 = LEAK;
+
+const HELD: u8 = LEAK;
 
 // Replays a trace: 0 no leak, 255 a leak at the step, else the refusal at the step.
 #[no_mangle]
@@ -70,6 +74,29 @@ pub extern "C" fn access_judge(file: &[u8], right: u8, buffer: &mut [u8], steps:
         Judgement::Unsafe(n) => {
             *steps = n as u64;
             UNSAFE
+        }
+    }
+}
+
+// Asks whether all cells of the list, three bytes each, can be held at the same moment: 255 held, 0 never, both with the number of steps written, else the
+// refusal, with 0 steps.
+#[no_mangle]
+pub extern "C" fn access_need(file: &[u8], list: &[u8], buffer: &mut [u8], steps: &mut u64) -> u8
+    ensures { λ r. ⌜ NeedAnswer (now (file .entry)) (now (list .entry)) (now (buffer .entry)) r (now (steps .exit)) (now (buffer .exit)) ⌝ }
+{
+    let need = needs::need_file(file, list, buffer);
+    match need {
+        Need::Refused(n) => {
+            *steps = 0;
+            n
+        }
+        Need::Held(n) => {
+            *steps = n as u64;
+            HELD
+        }
+        Need::Never(n) => {
+            *steps = n as u64;
+            0
         }
     }
 }

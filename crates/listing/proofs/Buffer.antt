@@ -13,8 +13,9 @@ use Rattle.layout.specs.File.{rightsOf}
 use Rattle.policy.specs.Refusals.{refusal}
 use Rattle.policy.specs.Contents.{policyOf, fileState, fileSystem}
 use Rattle.policy.proofs.Accepted.{accepted}
-use Rattle.safety.specs.Judgement.{singleOperations, callerRefusal}
-use Rattle.safety.proofs.Counts.{few-steps}
+use Rattle.questions.specs.Refusals.{singleOperations}
+use Rattle.questions.proofs.Counts.{few-steps}
+use Rattle.safety.specs.Judgement.{callerRefusal}
 use Rattle.listing.specs.Listing.{bufferBytes}
 
 pub long-enough : (f : List ℕ) → refusal f ≡ 0 → namesOf (fileState f) ≤ startNames → 5 * stepBound (fileSystem f .rights) (fileState f) ≤ bufferBytes

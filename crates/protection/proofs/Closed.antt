@@ -1,4 +1,4 @@
--- A state that is closed under the commands of one operation: no run from the start leaks r. It is free of the judge's order, loops and places.
+-- A saturated state that holds the right only where the start did, and in which it can nowhere be deleted and entered again: no run from the start leaks r.
 -- Assumes nothing.
 use mathlib.Core.Path.{_≡_, refl, sym, ap, subst}
 use mathlib.Core.Bool.{Bool, true, false, not, _&&_, _||_}
@@ -15,33 +15,7 @@ use Rattle.protection.specs.Leak.{after, isLeak, leaks}
 use Rattle.protection.specs.Judge.{operationIn}
 use Rattle.protection.specs.Paper.{subject-is-object}
 use Rattle.protection.proofs.Calls.{Singles, Has, ready, call-cases}
-
--- ---- a map of names that carries what holds in m over to M
-pub record Maps (m M : State) (f : ℕ → ℕ) : Type 0 where
-  pub subject-to : (x : ℕ) → T (subjectIn m x) → T (subjectIn M (f x))
-  pub object-to : (x : ℕ) → T (objectIn m x) → T (objectIn M (f x))
-  pub cell-to : (x y q : ℕ) → T (subjectIn m x) → T (objectIn m y) → T (m .cell x y q) → T (M .cell (f x) (f y) q)
-
--- an existing name is not one that is absent
-pub apart : (m : State) (n : ℕ) → T (not (objectIn m n)) → (x : ℕ) → T (objectIn m x) → eqb x n ≡ false
-apart m n gone x t = is-false (eqb x n) (λ e. T-not (objectIn m n) gone (subst (λ (z : ℕ). T (objectIn m z)) (eqb→eq x n e) t))
-
--- b is the image of a, as far as the conditions see it
-module _ (m M : State) (f : ℕ → ℕ) (h : Maps m M f) (a b : Actuals) where
-  holds-to : (c : Condition) → b (c .subject) ≡ f (a (c .subject)) → b (c .object) ≡ f (a (c .object)) → T (holds m a c) → T (holds M b c)
-  holds-to c es eo t = rw (es, eo) (search (both, h .subject-to, h .object-to, h .cell-to))
-
-  hold-all-to : (cs : List Condition) → ((i : ℕ) → b i ≡ f (a i)) → T (holdAll m a cs) → T (holdAll M b cs)
-  hold-all-to [] e t = tt
-  hold-all-to (c ∷ cs) e t =
-      and-intro (holds M b c) (holdAll M b cs)
-      (holds-to c (e (c .subject)) (e (c .object)) (and-left (holds m a c) (holdAll m a cs) t)) (hold-all-to cs e (and-right (holds m a c) (holdAll m a cs) t))
-
-pub ready-to : (C : Command) (m M : State) (f : ℕ → ℕ) → Maps m M f → (a : Actuals) → T (ready C m a) → T (ready C M (λ b. f (a b)))
-ready-to C m M f h a t = hold-all-to m M f h a (λ b. f (a b)) (C .conditions) (λ i. refl) t
-
-pub maps-self : (m : State) → Maps m m (λ x. x)
-maps-self m = record { subject-to = λ x t. t; object-to = λ x t. t; cell-to = λ x y q _ _ t. t }
+use Rattle.protection.proofs.Saturated.{Maps, ready-to, Newcomer, Saturated, enter-seen, maps-enter, maps-delete, maps-renamed, newcomer-subject, newcomer-object}
 
 -- ---- what a closed state is
 -- a call of a command of S that can be carried out in m, and whose operation c is on the cell (u, v)
@@ -56,20 +30,9 @@ pub record Reaches (S : System) (m : State) (c : ℕ → ℕ → Operation) (u v
   pub at-s : a s ≡ u
   pub at-o : a o ≡ v
 
--- a name that M has and the start has not; a subject if k is
-pub record Newcomer (m₀ M : State) (k : Kind) : Type 0 where
-  pub name : ℕ
-  pub subject-too : T (isSubject k) → T (subjectIn M name)
-  pub exists : T (objectIn M name)
-  pub fresh : T (not (objectIn m₀ name))
-
--- M is what the rounds come to from m₀; fresh is the name that they try in a create
 pub record Closed (S : System) (r : ℕ) (m₀ M : State) (fresh : ℕ) : Type 0 where
-  pub grows : Maps m₀ M (λ x. x)
+  pub saturated : Saturated S m₀ M fresh
   pub clean : (x y : ℕ) → T (m₀ .cell x y r) → T (objectIn m₀ x) × T (objectIn m₀ y)
-  pub enters : (C : Command) (q s o : ℕ) → Has S C (enter q s o) → (a : Actuals) → T (ready C M a) → T (canDo M a (enter q s o)) → T (M .cell (a s) (a o) q)
-  pub creates-subject : (C : Command) (s : ℕ) → Has S C (createSubject s) → (a : Actuals) → T (ready C M a) → a s ≡ fresh → Newcomer m₀ M subject
-  pub creates-object : (C : Command) (o : ℕ) → Has S C (createObject o) → (a : Actuals) → T (ready C M a) → a o ≡ fresh → Newcomer m₀ M object
   pub old : (x y : ℕ) → T (M .cell x y r) → T (m₀ .cell x y r)
   -- nowhere can r be deleted and entered again
   pub closing : (x y : ℕ) → T (m₀ .cell x y r) → Reaches S M (delete r) x y → Reaches S (takeOut M r x y) (enter r) x y → ⊥
@@ -85,44 +48,21 @@ module _ (S : System) (singles : Singles S) (r : ℕ) (m₀ M : State) (fresh : 
     kept : (x y : ℕ) → T (objectIn m x) → T (objectIn m y) → T (m₀ .cell (f x) (f y) r) → T (m .cell x y r) ⊎ Reaches S M (delete r) (f x) (f y)
 
   start : Sim m₀ (λ x. x)
-  start = record { maps = K .grows; orig = λ x _ _. refl; kept = λ x y _ _ t. inl t }
-
-  image : (m : State) (f : ℕ → ℕ) → Maps m M f → (C : Command) (c : Operation) → Has S C c → (a : Actuals) → T (ready C m a) → T (ready C M (λ b. f (a b)))
-  image m f h C c H a t = ready-to C m M f h a t
+  start = record { maps = K .saturated .grows; orig = λ x _ _. refl; kept = λ x y _ _ t. inl t }
 
   module _ (m : State) (f : ℕ → ℕ) (σ : Sim m f) where
     -- ---- enter
     sim-enter : (C : Command) (q s o : ℕ) → Has S C (enter q s o) → (a : Actuals) → T (ready C m a) → T (canDo m a (enter q s o)) → Sim (put m q (a s) (a o)) f
     sim-enter C q s o H a able can = record {
-      maps = record { subject-to = σ .maps .subject-to; object-to = σ .maps .object-to; cell-to = cell };
+      maps = maps-enter S m₀ M fresh (K .saturated) m f (σ .maps) C q s o H a able can;
       orig = σ .orig;
-      kept = λ x y hx hy t. ⊎-elim (λ u. inl (or-right (here x y r) (m .cell x y r) u)) inr (σ .kept x y hx hy t);
+      kept = λ x y hx hy t. ⊎-elim (λ u. inl (or-right (sameCell x y (a s) (a o) && eqb r q) (m .cell x y r) u)) inr (σ .kept x y hx hy t);
     }
-      where
-        here : ℕ → ℕ → ℕ → Bool
-        here x y q' = sameCell x y (a s) (a o) && eqb q' q
-
-        new : T (M .cell (f (a s)) (f (a o)) q)
-        new = K .enters C q s o H (λ b. f (a b)) (image m f (σ .maps) C (enter q s o) H a able) (search (both, σ .maps .subject-to, σ .maps .object-to))
-
-        cell : (x y q' : ℕ) → T (subjectIn m x) → T (objectIn m y) → T (here x y q' || m .cell x y q') → T (M .cell (f x) (f y) q')
-        cell x y q' hx hy t = ⊎-elim at-new (σ .maps .cell-to x y q' hx hy) (or-cases (here x y q') (m .cell x y q') t)
-          where
-            at-new : T (here x y q') → T (M .cell (f x) (f y) q')
-            at-new e =
-                let eq : q' ≡ q = eqb→eq _ _ (search both) in
-                let ex : x ≡ a s = eqb→eq _ _ (search both) in
-                let ey : y ≡ a o = eqb→eq _ _ (search both) in
-                rw (eq, ex, ey) new
 
     -- ---- delete
     sim-delete : (C : Command) (q s o : ℕ) → Has S C (delete q s o) → (a : Actuals) → T (ready C m a) → T (canDo m a (delete q s o)) → Sim (takeOut m q (a s) (a o)) f
     sim-delete C q s o H a able can = record {
-      maps = record {
-        subject-to = σ .maps .subject-to;
-        object-to = σ .maps .object-to;
-        cell-to = λ x y q' hx hy t. σ .maps .cell-to x y q' hx hy (and-right (not (sameCell x y (a s) (a o) && eqb q' q)) (m .cell x y q') t);
-      };
+      maps = maps-delete S m₀ M fresh (K .saturated) m f (σ .maps) q (a s) (a o);
       orig = σ .orig;
       kept = λ x y hx hy t. split x y (sameCell x y (a s) (a o) && eqb r q) (λ e. e) (σ .kept x y hx hy t);
     }
@@ -138,7 +78,7 @@ module _ (S : System) (singles : Singles S) (r : ℕ) (m₀ M : State) (fresh : 
               o = o;
               a = λ b. f (a b);
               has = rw eq H;
-              able = image m f (σ .maps) C (delete q s o) H a able;
+              able = ready-to C m M f (σ .maps) a able;
               can = search (both, σ .maps .subject-to, σ .maps .object-to);
               at-s = ap f (sym ex);
               at-o = ap f (sym ey);
@@ -153,25 +93,11 @@ module _ (S : System) (singles : Singles S) (r : ℕ) (m₀ M : State) (fresh : 
     sim-renew : (n n' : ℕ) (k : Kind) → (T (isSubject k) → T (subjectIn M n')) → (T (isObject k) → T (objectIn M n')) → (T (isObject k) → T (not (objectIn m₀ n')))
         → Sim (renew m n k) (λ x. pick (eqb x n) n' (f x))
     sim-renew n n' k hs ho hn = record {
-      maps = record { subject-to = λ x. sub x (eqb x n); object-to = λ x. obj x (eqb x n); cell-to = λ x y q. cell x y q (eqb x n) (eqb y n) };
+      maps = maps-renamed S m₀ M fresh (K .saturated) m f (σ .maps) n n' k hs ho;
       orig = λ x. orig' x (eqb x n);
       kept = λ x y. kept' x y (eqb x n) (eqb y n);
     }
       where
-        sub : (x : ℕ) (b : Bool) → T (isSubject (pick b k (m .kind x))) → T (subjectIn M (pick b n' (f x)))
-        sub x true t = hs t
-        sub x false t = σ .maps .subject-to x t
-
-        obj : (x : ℕ) (b : Bool) → T (isObject (pick b k (m .kind x))) → T (objectIn M (pick b n' (f x)))
-        obj x true t = ho t
-        obj x false t = σ .maps .object-to x t
-
-        cell : (x y q : ℕ) (b c : Bool) → T (isSubject (pick b k (m .kind x))) → T (isObject (pick c k (m .kind y)))
-            → T (not (b || c) && m .cell x y q) → T (M .cell (pick b n' (f x)) (pick c n' (f y)) q)
-        cell x y q true c hx hy t = absurd t
-        cell x y q false true hx hy t = absurd t
-        cell x y q false false hx hy t = σ .maps .cell-to x y q hx hy t
-
         orig' : (x : ℕ) (b : Bool) → T (isObject (pick b k (m .kind x))) → T (objectIn m₀ (pick b n' (f x))) → pick b n' (f x) ≡ x
         orig' x true t u = absurd (T-not (objectIn m₀ n') (hn t) u)
         orig' x false t u = σ .orig x t u
@@ -182,14 +108,6 @@ module _ (S : System) (singles : Singles S) (r : ℕ) (m₀ M : State) (fresh : 
         kept' x y true c hx hy t = absurd (T-not (objectIn m₀ n') (hn hx) (K .clean n' (pick c n' (f y)) t .0))
         kept' x y false true hx hy t = absurd (T-not (objectIn m₀ n') (hn hy) (K .clean (f x) n' t .1))
         kept' x y false false hx hy t = σ .kept x y hx hy t
-
-    -- a name that m lacks may stand for any: what the commands ask does not see it
-    maps-fresh : (n n' : ℕ) → T (not (objectIn m n)) → Maps m M (λ x. pick (eqb x n) n' (f x))
-    maps-fresh n n' gone = record {
-      subject-to = λ x t. rw (apart m n gone x (subject-is-object (m .kind x) t)) (σ .maps .subject-to x t);
-      object-to = λ x t. rw (apart m n gone x t) (σ .maps .object-to x t);
-      cell-to = λ x y q s o t. rw (apart m n gone x (subject-is-object (m .kind x) s), apart m n gone y o) (σ .maps .cell-to x y q s o t);
-    }
 
     -- ---- a leak
     no-leak : (C : Command) (s o : ℕ) → Has S C (enter r s o) → (a : Actuals) → T (ready C m a) → T (canDo m a (enter r s o)) → T (not (m .cell (a s) (a o) r)) → ⊥
@@ -202,8 +120,7 @@ module _ (S : System) (singles : Singles S) (r : ℕ) (m₀ M : State) (fresh : 
         ts = subject-is-object (m .kind (a s)) (search both)
 
         was : T (m₀ .cell (f (a s)) (f (a o)) r)
-        was = K .old (f (a s)) (f (a o))
-            (K .enters C r s o H (λ b. f (a b)) (image m f (σ .maps) C (enter r s o) H a able) (search (both, σ .maps .subject-to, σ .maps .object-to)))
+        was = K .old (f (a s)) (f (a o)) (enter-seen S m₀ M fresh (K .saturated) m f (σ .maps) C r s o H a able can)
 
         in-start : T (objectIn m₀ (f (a s))) × T (objectIn m₀ (f (a o)))
         in-start = K .clean (f (a s)) (f (a o)) was
@@ -254,26 +171,12 @@ module _ (S : System) (singles : Singles S) (r : ℕ) (m₀ M : State) (fresh : 
       map : ℕ → ℕ
       sim : Sim (after o m) map
 
-    -- the created name n stands for the newcomer that M has, since the command is ready in M with the name that the rounds try
-    create : (n : ℕ) (k : Kind) → T (not (objectIn m n)) → (C : Command) (c : Operation) → Has S C c → (a : Actuals) → T (ready C m a)
-        → (T (ready C M (λ b. pick (eqb (a b) n) fresh (f (a b)))) → Newcomer m₀ M k) → Good (done (renew m n k) (λ q. false))
-    create n k gone C c H a able newcomer =
-        let N = newcomer (image m (λ x. pick (eqb x n) fresh (f x)) (maps-fresh n fresh gone) C c H a able) in
-        record {
-          quiet = λ t. t;
-          map = λ x. pick (eqb x n) (N .name) (f x);
-          sim = sim-renew n (N .name) k (N .subject-too) (λ _. N .exists) (λ _. N .fresh);
-        }
+    -- a created name stands for a newcomer, and a destroyed one for any
+    create : (n : ℕ) (k : Kind) → Newcomer m₀ M k → Good (done (renew m n k) (λ q. false))
+    create n k N = record { quiet = λ t. t; map = λ x. pick (eqb x n) (N .name) (f x); sim = sim-renew n (N .name) k (N .subject-too) (λ _. N .exists) (λ _. N .fresh) }
 
     destroy : (n : ℕ) → Good (done (renew m n absent) (λ q. false))
     destroy n = record { quiet = λ t. t; map = λ x. pick (eqb x n) 0 (f x); sim = sim-renew n 0 absent (λ t. absurd t) (λ t. absurd t) (λ t. absurd t) }
-
-    at-fresh : (n z : ℕ) → pick (eqb n n) fresh z ≡ fresh
-    at-fresh n z = go (eqb n n) (eqb-refl n)
-      where
-        go : (b : Bool) → T b → pick b fresh z ≡ fresh
-        go true t = refl
-        go false t = absurd t
 
     step : (C : Command) (c : Operation) → Has S C c → (a : Actuals) → T (ready C m a) → T (canDo m a c) → Good (done (effect m a c) (entersNew m a c))
     step C (enter q s o) H a able can = record {
@@ -283,10 +186,8 @@ module _ (S : System) (singles : Singles S) (r : ℕ) (m₀ M : State) (fresh : 
       sim = sim-enter C q s o H a able can;
     }
     step C (delete q s o) H a able can = record { quiet = λ t. t; map = f; sim = sim-delete C q s o H a able can }
-    step C (createSubject s) H a able can =
-        create (a s) subject can C (createSubject s) H a able (λ t. K .creates-subject C s H (λ b. pick (eqb (a b) (a s)) fresh (f (a b))) t (at-fresh (a s) (f (a s))))
-    step C (createObject o) H a able can =
-        create (a o) object can C (createObject o) H a able (λ t. K .creates-object C o H (λ b. pick (eqb (a b) (a o)) fresh (f (a b))) t (at-fresh (a o) (f (a o))))
+    step C (createSubject s) H a able can = create (a s) subject (newcomer-subject S m₀ M fresh (K .saturated) m f (σ .maps) C s H a able can)
+    step C (createObject o) H a able can = create (a o) object (newcomer-object S m₀ M fresh (K .saturated) m f (σ .maps) C o H a able can)
     step C (destroySubject s) H a able can = destroy (a s)
     step C (destroyObject o) H a able can = destroy (a o)
 

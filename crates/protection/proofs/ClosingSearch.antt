@@ -13,7 +13,7 @@ use Rattle.protection.specs.Limits.{names}
 use Rattle.protection.specs.State.{State, objectIn}
 use Rattle.protection.specs.Command.{Operation, enter, delete, createSubject, createObject, destroySubject, destroyObject, Command, System, Call, Actuals, actuals}
 use Rattle.protection.specs.Execution.{bounded, takeOut, effect, entersNew, done, execute}
-use Rattle.protection.specs.Judge.{firstIn, lowestAbsent, operationIn, placesOf, callAt, allowed, deletesAt, entersAt, takes, returns, firstCall, both, pairAt, isEmpty, closing}
+use Rattle.protection.specs.Judge.{firstIn, lowestAbsent, leakOf, operationIn, placesOf, callAt, allowed, deletesAt, entersAt, takes, returns, firstCall, both, pairAt, isEmpty, closing}
 use Rattle.protection.proofs.Calls.{Singles, outcome, call-done, allowed-carried}
 use Rattle.protection.proofs.Closed.{Reaches}
 use Rattle.protection.proofs.First.{first-passes, first-found}
@@ -201,8 +201,8 @@ module _ (S : System) (singles : Singles S) (r : ℕ) (m₀ M : State) where
       at true = pair (cell / names) (cell % names) (m₀ .cell (cell / names) (cell % names) r)
       at false = omega arith
 
-  module _ (xs : List Call) (G : Goes S r m₀ xs M false) where
-    two-steps : (u v : ℕ) (x y : Call) → Hit (takes S M r u v) (S .commands) 0 x → Hit (returns S M r u v) (S .commands) 0 y → (m : State) × Goes S r m₀ (xs ++ (x ∷ y ∷ [])) m true
+  module _ (xs : List Call) (G : Goes S (leakOf r) m₀ xs M false) where
+    two-steps : (u v : ℕ) (x y : Call) → Hit (takes S M r u v) (S .commands) 0 x → Hit (returns S M r u v) (S .commands) 0 y → (m : State) × Goes S (leakOf r) m₀ (xs ++ (x ∷ y ∷ [])) m true
     two-steps u v x y H K =
         let N = takeOut M r u v in
         let dx = sought-parts S (deletesAt r u v) M (H .C) x (H .passes) .0 in
@@ -212,20 +212,20 @@ module _ (S : System) (singles : Singles S) (r : ℕ) (m₀ M : State) where
         let G' = more y (more x G (λ q. false) ex refl) (entersNew N (actuals y) (operationIn (K .C))) ey (after-enter r u v M (actuals y) (operationIn (K .C)) dy) in
         (effect N (actuals y) (operationIn (K .C)), rw append-assoc at G')
 
-    pair-sound : (u v : ℕ) → T (not (isEmpty (pairAt S r m₀ M u v))) → (m : State) × Goes S r m₀ (xs ++ pairAt S r m₀ M u v) m true
+    pair-sound : (u v : ℕ) → T (not (isEmpty (pairAt S r m₀ M u v))) → (m : State) × Goes S (leakOf r) m₀ (xs ++ pairAt S r m₀ M u v) m true
     pair-sound u v = go (m₀ .cell u v r)
       where
         go : (b : Bool) → T (not (isEmpty (elim b [ true ↦ both (deleted u v) (entered u v) | false ↦ [] ])))
-            → (m : State) × Goes S r m₀ (xs ++ elim b [ true ↦ both (deleted u v) (entered u v) | false ↦ [] ]) m true
+            → (m : State) × Goes S (leakOf r) m₀ (xs ++ elim b [ true ↦ both (deleted u v) (entered u v) | false ↦ [] ]) m true
         go true t =
             let (x, y, ex, ey, e) = both-is (deleted u v) (entered u v) t in
             rw e (two-steps u v x y (call-hit (takes S M r u v) (lowestAbsent M) (S .commands) 0 x ex) (call-hit (returns S M r u v) (lowestAbsent M) (S .commands) 0 y ey))
         go false t = absurd t
 
-    pub closing-sound : T (not (isEmpty (closing S r m₀ M))) → (m : State) × Goes S r m₀ (xs ++ closing S r m₀ M) m true
+    pub closing-sound : T (not (isEmpty (closing S r m₀ M))) → (m : State) × Goes S (leakOf r) m₀ (xs ++ closing S r m₀ M) m true
     closing-sound = go (ltb cell (names * names))
       where
         go : (b : Bool) → T (not (isEmpty (elim b [ true ↦ pairAt S r m₀ M (cell / names) (cell % names) | false ↦ [] ])))
-            → (m : State) × Goes S r m₀ (xs ++ elim b [ true ↦ pairAt S r m₀ M (cell / names) (cell % names) | false ↦ [] ]) m true
+            → (m : State) × Goes S (leakOf r) m₀ (xs ++ elim b [ true ↦ pairAt S r m₀ M (cell / names) (cell % names) | false ↦ [] ]) m true
         go true t = pair-sound (cell / names) (cell % names) t
         go false t = absurd t

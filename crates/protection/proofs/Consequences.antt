@@ -13,19 +13,19 @@ use Rattle.protection.specs.Command.{Command, System, Call, actuals, spa
 use Rattle.protection.specs.Execution.{Outcome, refused, done, execute}
 use Rattle.protection.specs.Leak.{after}
 use Rattle.protection.specs.Paper.{Configuration, configuration, Same, Executes}
-use Rattle.protection.specs.Judge.{opened, round, rounds, conclude, allRounds, judge, Settled}
+use Rattle.protection.specs.Judge.{Question, leakOf, opened, round, rounds, conclude, allRounds, judge, Settled}
 use Rattle.protection.specs.Agreement.{Admitted, Agrees}
 use Rattle.protection.proofs.Spare.{fits-name, fits-rest}
 
-module _ (S : System) (r : ℕ) (m : State) (K : Settled S r m) where
-  -- where no enter of r ended the rounds, another round does nothing
-  pub settled-still : T (not (allRounds S r m .ended)) → round S r (allRounds S r m) ≡ allRounds S r m
-  settled-still going = ⊎-elim (λ t. absurd (T-not (allRounds S r m .ended) going t)) (λ e. e) (K .ends)
+-- where the question has not ended the rounds, another round does nothing
+pub settled-still : (S : System) (Q : Question) (m : State) → Settled S Q m → T (not (allRounds S Q m .ended)) → round S Q (allRounds S Q m) ≡ allRounds S Q m
+settled-still S Q m K going = ⊎-elim (λ t. absurd (T-not (allRounds S Q m .ended) going t)) (λ e. e) (K .ends)
 
-  -- a judge with more fuel is the same judge
-  pub any-fuel : (fuel : ℕ) → stepBound (S .rights) m ≤ fuel → conclude S r m (rounds S r fuel (opened m)) ≡ judge S r m
-  unfolding judge
-  any-fuel fuel l = ap (conclude S r m) (K .enough fuel l)
+-- a judge with more fuel is the same judge
+pub any-fuel : (S : System) (r : ℕ) (m : State) → Settled S (leakOf r) m → (fuel : ℕ) → stepBound (S .rights) m ≤ fuel
+    → conclude S r m (rounds S (leakOf r) fuel (opened (leakOf r) m)) ≡ judge S r m
+unfolding judge
+any-fuel S r m K fuel l = ap (conclude S r m) (K .enough fuel l)
 
 module _ (nameable : ℕ → Bool) (S : System) (x : Call) (C : Command) (A : Admitted nameable S x C) where
   -- a call that is admitted is one of a command that is there

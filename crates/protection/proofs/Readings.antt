@@ -1,8 +1,9 @@
 -- Readings of document 01 that no code of this crate computes, each on a system of a few commands, by computation. Assumes nothing.
 use Prim.Native.Nat.{ℕ}
-use mathlib.Core.Path.{_≡_, refl}
+use mathlib.Core.Path.{_≡_, refl, sym, ap, _∙_}
 use mathlib.Core.Bool.{Bool, true, false, _&&_, _||_}
 use mathlib.Core.List.{List, [], _∷_}
+use native.Mathlib.Omega.{arith}
 use lib.Dec.{T, eqb}
 use lib.ListN.{getD}
 use Rattle.cases.specs.Cases.{iterate, all}
@@ -12,7 +13,8 @@ use Rattle.protection.specs.Command.{Condition, Operation, enter, delete
 use Rattle.protection.specs.Execution.{bounded, unbounded, Outcome, refused, execute}
 use Rattle.protection.specs.Leak.{isRefused, leaks, anyRefused, LeaksLast}
 use Rattle.protection.specs.Size.{count}
-use Rattle.protection.specs.Judge.{lowestAbsent, placesOf, rounds, Verdict, judge}
+use Rattle.protection.specs.Judge.{lowestAbsent, placesOf, rounds, Verdict, allRounds, judge}
+use Rattle.protection.specs.Need.{Cell, CellsThere, heldOf, nothing, final, destroysAnyOld, destroysStart, HeldAfter, NeverHeld}
 
 -- ---- small states, systems and calls
 -- a right in a cell
@@ -227,3 +229,123 @@ there-elsewhere
     ≡ unsafe (call 1 (0 ∷ 1 ∷ []) ∷ call 0 (0 ∷ 1 ∷ []) ∷ [])
 unfolding judge rounds lowestAbsent iterate all count
 there-elsewhere = refl
+
+-- ---- cells that are needed (document 02, C-14)
+abbrev needs : ℕ → ℕ → ℕ → Cell
+needs q s o = record { right = q; subject = s; object = o }
+
+-- rights 0 to 2; rule 0 (a) enters 0 into (a,a); 1 (a,b): if 0 in (b,b), enter 1 into (a,a); 2 (a): if 1 in (a,a), destroy subject a; 3 (a) creates subject a
+abbrev press : System
+press =
+    system 3
+    (command 1 [] (enter 0 0 0 ∷ []) ∷
+    command 2 (ifIn 0 1 1 ∷ []) (enter 1 0 0 ∷ []) ∷
+    command 1 (ifIn 1 0 0 ∷ []) (destroySubject 0 ∷ []) ∷
+    command 1 [] (createSubject 0 ∷ []) ∷ [])
+
+-- the judge's steps, up to a matrix that holds the cells
+abbrev stepsTo : List Cell → State → List Call
+stepsTo cs m = allRounds press (heldOf cs) m .steps
+
+-- "the judge's steps, in its order, up to the first matrix that holds them all (0 steps if the start does)"
+up-to-held : stepsTo (needs 1 0 0 ∷ needs 0 0 0 ∷ []) without ≡ call 0 (0 ∷ []) ∷ call 1 (0 ∷ 0 ∷ []) ∷ []
+unfolding rounds lowestAbsent iterate all count
+up-to-held = refl
+
+no-cells : stepsTo [] without ≡ []
+unfolding rounds lowestAbsent iterate all count
+no-cells = refl
+
+held-at-the-start : stepsTo (needs 0 0 0 ∷ []) with ≡ []
+unfolding rounds lowestAbsent iterate all count
+held-at-the-start = refl
+
+-- "all the steps of the rounds then stand in the buffer"
+abbrev allSteps : List Call
+allSteps = call 0 (0 ∷ []) ∷ call 1 (0 ∷ 0 ∷ []) ∷ call 3 (1 ∷ []) ∷ call 0 (1 ∷ []) ∷ call 1 (1 ∷ 0 ∷ []) ∷ []
+
+never-held : stepsTo (needs 2 0 0 ∷ []) without ≡ allSteps
+unfolding rounds lowestAbsent iterate all count
+never-held = refl
+
+by-nothing : allRounds press nothing without .steps ≡ allSteps
+unfolding rounds lowestAbsent iterate all count
+by-nothing = refl
+
+-- a first rule run that the judge does not begin with
+not-the-judges : HeldAfter press (needs 0 0 0 ∷ []) without (call 3 (1 ∷ []) ∷ call 0 (0 ∷ []) ∷ []) → ⊥
+not-the-judges h =
+    let e : allSteps ≡ call 3 (1 ∷ []) ∷ call 0 (0 ∷ []) ∷ h .front .0 = sym by-nothing ∙ h .front .1 in
+    let same : call 0 (0 ∷ []) ≡ call 3 (1 ∷ []) = cc in
+    let z : _≡_ {A = ℕ} 0 3 = ap (λ (x : Call). x .command) same in
+    omega arith
+
+none-refused-either : HeldAfter press (needs 0 0 0 ∷ []) without (call 2 (0 ∷ []) ∷ call 0 (0 ∷ []) ∷ []) → ⊥
+unfolding anyRefused all
+none-refused-either h = h .carried tt
+
+all-held : HeldAfter press (needs 0 0 0 ∷ needs 1 0 0 ∷ []) without (call 0 (0 ∷ []) ∷ []) → ⊥
+unfolding final all
+all-held h = h .held
+
+no-step-too-many : HeldAfter press (needs 0 0 0 ∷ []) without (call 0 (0 ∷ []) ∷ call 1 (0 ∷ 0 ∷ []) ∷ []) → ⊥
+unfolding final all
+no-step-too-many h =
+    let e = h .sooner (call 0 (0 ∷ []) ∷ []) (call 1 (0 ∷ 0 ∷ []) ∷ []) refl tt in
+    let z : _≡_ {A = ℕ} 0 1 = cc in
+    omega arith
+
+-- subject 0 and object 1
+abbrev two : State
+two = state (subject ∷ object ∷ []) []
+
+-- refused are "a first name that is no subject at the start, or a second that is absent then": an object is neither
+an-object : CellsThere (needs 0 0 1 ∷ []) two
+an-object = (tt, tt, tt)
+
+-- ---- runs that destroy no starting name
+abbrev destroysFrom : State → List Call → Bool
+destroysFrom m xs = destroysStart unbounded press m m xs
+
+-- as each rule run meets the state that the one before left
+destroys-later : destroysFrom without (call 0 (0 ∷ []) ∷ call 1 (0 ∷ 0 ∷ []) ∷ call 2 (0 ∷ []) ∷ []) ≡ true
+unfolding destroysStart all
+destroys-later = refl
+
+-- of the six operations the two destroys do, wherever in the rule, and of a name that is there
+abbrev destroysHere : List Operation → Bool
+destroysHere cs = destroysAnyOld two (λ b. b) cs
+
+destroys-none : destroysHere (enter 0 0 1 ∷ delete 0 0 1 ∷ createSubject 0 ∷ createObject 1 ∷ destroySubject 2 ∷ destroyObject 2 ∷ []) ≡ false
+destroys-none = refl
+
+destroys-subject : destroysHere (enter 0 0 1 ∷ destroySubject 0 ∷ []) ≡ true
+destroys-subject = refl
+
+destroys-object : destroysHere (enter 0 0 1 ∷ destroyObject 1 ∷ []) ≡ true
+destroys-object = refl
+
+-- one that is refused destroys nothing
+refused-destroy : destroysFrom without (call 2 (0 ∷ []) ∷ call 0 (0 ∷ []) ∷ []) ≡ false
+unfolding destroysStart all
+refused-destroy = refl
+
+-- a name that the run created is none of the start
+destroys-created : destroysFrom without (call 3 (1 ∷ []) ∷ call 0 (1 ∷ []) ∷ call 1 (1 ∷ 1 ∷ []) ∷ call 2 (1 ∷ []) ∷ []) ≡ false
+unfolding destroysStart all
+destroys-created = refl
+
+-- "no finite run that destroys no starting name": with refused rule runs, and with names "from 0 up, without a bound"
+a-refused-run : NeverHeld press (needs 0 0 0 ∷ []) without allSteps → ⊥
+unfolding destroysStart final all
+a-refused-run h = h .never (call 2 (0 ∷ []) ∷ call 0 (0 ∷ []) ∷ []) (λ t. t) tt
+
+a-large-name : NeverHeld press (needs 1 0 0 ∷ []) without allSteps → ⊥
+unfolding destroysStart final all
+a-large-name h = h .never (call 3 (100000 ∷ []) ∷ call 0 (100000 ∷ []) ∷ call 1 (0 ∷ 100000 ∷ []) ∷ []) (λ t. t) tt
+
+fewer-steps : NeverHeld press (needs 2 0 0 ∷ []) without [] → ⊥
+fewer-steps h =
+    let e : [] ≡ allSteps = h .all-steps ∙ by-nothing in
+    let z : _≡_ {A = ℕ} 0 1 = cc in
+    omega arith

@@ -97,10 +97,14 @@ abbrev pub NamesOfFile : System → List Call → Type 0
 NamesOfFile S [] = Unit {0}
 NamesOfFile S (x ∷ xs) = ((C : Command) → getElem? (S .commands) (x .command) ≡ some C → (b : ℕ) → b < C .parameters → T (not (spare C b)) → T (bounded (actuals x b))) × NamesOfFile S xs
 
+-- what is carried out on the names of a file is carried out on names without number
+pub call-unbounded : (S : System) (x : Call) (m m' : State) (new : ℕ → Bool) → execute bounded S m x ≡ done m' new → execute unbounded S m x ≡ done m' new
+call-unbounded S x = carries bounded unbounded S x (λ C _ b _ _ _. tt)
+
 module _ (S : System) (r : ℕ) where
   widen : (xs : List Call) → CarriesAll bounded unbounded S xs
   widen [] = tt
-  widen (x ∷ xs) = (carries bounded unbounded S x (λ C _ b _ _ _. tt), widen xs)
+  widen (x ∷ xs) = (call-unbounded S x, widen xs)
 
   narrow : (xs : List Call) → NamesOfFile S xs → CarriesAll unbounded bounded S xs
   narrow [] h = tt

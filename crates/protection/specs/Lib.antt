@@ -6,5 +6,6 @@ pub mod Command
 pub mod Execution
 pub mod Leak
 pub mod Judge
+pub mod Need
 pub mod Paper
 pub mod Agreement

@@ -19,7 +19,7 @@ use Rattle.protection.specs.Size.{namesOf}
 use Rattle.protection.specs.Command.{Command, System, Call, Actuals, spare}
 use Rattle.protection.specs.Execution.{unbounded, actualFits}
 use Rattle.protection.specs.Leak.{leaks, anyRefused, init, LeaksLast}
-use Rattle.protection.specs.Judge.{round, conclude, allRounds, judge}
+use Rattle.protection.specs.Judge.{leakOf, round, conclude, allRounds, judge}
 use Rattle.protection.proofs.Consequences.{settled-still}
 use Rattle.policy.specs.Contents.{fileState, fileSystem}
 use Rattle.trace.specs.Traces.{stepCall, calls}
@@ -28,7 +28,7 @@ use Rattle.safety.specs.Demand3.{stepsWritten, isSafe, isUnsafe, Demand3
 use Rattle.safety.specs.Judgement.{judgeRefusal, fileVerdict, judgementOf, Judged}
 use Rattle.safety.specs.declared.Judgement.{Judgement}
 use Rattle.safety.specs.declared.Judgement.the-variants.{Refused, Safe, Unsafe}
-use Rattle.safety.proofs.Counts.{few-steps}
+use Rattle.questions.proofs.Counts.{few-steps}
 use Rattle.safety.proofs.Refusals.{judges, refuses, kept}
 
 -- a run that leaks at its last step has one
@@ -127,15 +127,15 @@ module _ (f : List ℕ) (r : ℕ) (b : List ℕ) (answer : Judgement) (b' : List
   unsafe-given k e = given (λ i q. let w : _≡_ {A = ℕ} 0 1 = cc in omega arith)
 
   -- under safe the rounds went on until a whole round did nothing
-  pub safe-still : (k : ℕ) → answer ≡ Safe k → round S r (allRounds S r m) ≡ allRounds S r m
+  pub safe-still : (k : ℕ) → answer ≡ Safe k → round S (leakOf r) (allRounds S (leakOf r) m) ≡ allRounds S (leakOf r) m
   unfolding judge
   safe-still k e =
       let z = safe-given k e in
-      settled-still S r m (J .settled z) (go (allRounds S r m .ended) refl (sym (judges f r (length b) z) ∙ sym (J .answer-is) ∙ e))
+      settled-still S (leakOf r) m (J .settled z) (go (allRounds S (leakOf r) m .ended) refl (sym (judges f r (length b) z) ∙ sym (J .answer-is) ∙ e))
     where
-      go : (u : Bool) → allRounds S r m .ended ≡ u → judgementOf (conclude S r m (allRounds S r m)) ≡ Safe k → T (not (allRounds S r m .ended))
+      go : (u : Bool) → allRounds S (leakOf r) m .ended ≡ u → judgementOf (conclude S r m (allRounds S (leakOf r) m)) ≡ Safe k → T (not (allRounds S (leakOf r) m .ended))
       go false d q = rw d tt
-      go true d q = absurd (let p : Unsafe (length (allRounds S r m .steps)) ≡ Safe k = rw d at q in let w : _≡_ {A = ℕ} 0 1 = cc in omega arith)
+      go true d q = absurd (let p : Unsafe (length (allRounds S (leakOf r) m .steps)) ≡ Safe k = rw d at q in let w : _≡_ {A = ℕ} 0 1 = cc in omega arith)
 
   -- under unsafe replay says a leak, at the last of the steps
   pub replay-leaks : (k : ℕ) → answer ≡ Unsafe k → replayCode (fileReplay f (take (5 * k) b') r) ≡ 255

@@ -1,6 +1,6 @@
 -- Demand 3: where nothing is refused, the verdict is the truth about all runs, the rounds have settled, and the steps replay; and so the judge's answer and
 -- buffer are all that is to be shown of the code. Assumes nothing.
-use Prim.Native.Nat.{ℕ, suc, _*_, _-_, _≤_}
+use Prim.Native.Nat.{ℕ, suc, _*_, _-_, _≤_, _<_}
 use mathlib.Core.Path.{_≡_, refl, sym, ap, ap₂, _∙_, subst}
 use mathlib.Core.Bool.{Bool, true, false, not}
 use mathlib.Core.List.{List, [], append-nil}
@@ -16,9 +16,10 @@ use Rattle.protection.specs.Size.{stepBound}
 use Rattle.protection.specs.Command.{System, Call}
 use Rattle.protection.specs.Execution.{bounded, unbounded}
 use Rattle.protection.specs.Leak.{LeaksLast}
-use Rattle.protection.specs.Judge.{Verdict, judge, Settled}
+use Rattle.protection.specs.Judge.{leakOf, Verdict, judge, Settled}
 use Rattle.protection.proofs.Names.{every-name}
-use Rattle.protection.proofs.Safety.{Taken, rounds-settled, unsafe-steps-bounded, unsafe-steps, safe-never, decides, within-bound}
+use Rattle.protection.proofs.Saturation.{Taken, rounds-settled}
+use Rattle.protection.proofs.Safety.{unsafe-steps-bounded, unsafe-steps, safe-never, decides, within-bound}
 use Rattle.matrix.specs.Matrices.{stateOf}
 use Rattle.layout.specs.Refusals.{orElse}
 use Rattle.policy.specs.Refusals.{refusal}
@@ -33,8 +34,10 @@ use Rattle.trace.specs.Traces.{calls}
 use Rattle.trace.specs.Replays.{fileReplay}
 use Rattle.trace.specs.declared.Replay.the-variants.{Leak}
 use Rattle.trace.proofs.Laws.{Replayed, replay-leak}
+use Rattle.goals.specs.Goals.{leakGoal}
 use Rattle.visits.specs.Engine.{Asked}
 use Rattle.visits.proofs.Asked.{taken}
+use Rattle.questions.proofs.Refusals.{sized}
 use Rattle.safety.specs.Demand3.{stepsWritten, isSafe, isUnsafe, Demand3}
 use Rattle.safety.specs.Judgement.{callerRefusal, judgeRefusal, fileVerdict, judgementOf, fileJudgement, bytesOf, filled, fileBuffer, FileDemand3, Judged}
 use Rattle.safety.specs.Conclusion.{Concluded}
@@ -86,15 +89,15 @@ module _ (f : List ℕ) (r : ℕ) (b : List ℕ) where
 
     file-taken : Taken (fileSystem f) (fileState f)
     unfolding policyOf
-    file-taken = taken (policyOf f) r (length b) (question-asked (policyOf f) r (length b) (none-refused f r (length b) z .1) (policy-fits f accepted-file))
+    file-taken = taken (policyOf f) (leakGoal r) (length b) (question-asked (policyOf f) r (length b) (none-refused f r (length b) z .1) (policy-fits f accepted-file))
 
   -- the theorem: demand 3, for every file, right and buffer that is not refused
   pub judge-demand3 : FileDemand3 f r b (fileJudgement f r (length b)) (fileBuffer f r b)
   judge-demand3 z = subst (λ (w : Judgement). Demand3 (fileSystem f) r (fileState f) b w (fileBuffer f r b)) (sym (judges f r (length b) z))
-      (subst (Demand3 (fileSystem f) r (fileState f) b (judgementOf (fileVerdict f r))) (sym (fills f r b z)) (verdict-demand3 (fileSystem f) r (fileState f) (file-taken z) b (not-refused z .room)))
+      (subst (Demand3 (fileSystem f) r (fileState f) b (judgementOf (fileVerdict f r))) (sym (fills f r b z)) (verdict-demand3 (fileSystem f) r (fileState f) (file-taken z) b (sized (fileSystem f) (fileState f) (length b) (not-refused z .size) .room)))
 
-  pub judge-settled : judgeRefusal f r (length b) ≡ 0 → Settled (fileSystem f) r (fileState f)
-  judge-settled z = rounds-settled (fileSystem f) r (fileState f) (file-taken z)
+  pub judge-settled : judgeRefusal f r (length b) ≡ 0 → Settled (fileSystem f) (leakOf r) (fileState f)
+  judge-settled z = rounds-settled (fileSystem f) (leakOf r) (fileState f) (file-taken z)
 
   -- ---- the steps replay
   module _ (z : judgeRefusal f r (length b) ≡ 0) (t : T (fileVerdict f r .unsafe)) where
@@ -171,8 +174,11 @@ module _ (f : List ℕ) (r : ℕ) (b : List ℕ) where
       caller-refused k e ne = refused-with k ne (refusal-is k e)
 
       module _ (k : ℕ) (e : k ≡ callerRefusal (systemOf (x .policy)) (stateOf (x .policy .matrix)) r (length b)) (n : k ≡ 0) where
-        pub file-asked : Asked (x .policy) r (length b)
+        pub file-asked : Asked (x .policy) (leakGoal r) (length b)
         file-asked = question-asked (x .policy) r (length b) (sym e ∙ n) (policy-fits-read f x d z)
+
+        pub file-below : r < x .policy .rights
+        file-below = passed (systemOf (x .policy)) (stateOf (x .policy .matrix)) r (length b) (sym e ∙ n) .below
 
         verdict-is : judge (systemOf (x .policy)) r (stateOf (x .policy .matrix)) ≡ fileVerdict f r
         unfolding policyOf

@@ -1,4 +1,3 @@
-pub mod Counts
 pub mod Refusals
 pub mod Buffers
 pub mod Concluding

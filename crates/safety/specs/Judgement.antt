@@ -2,19 +2,17 @@
 -- promises.
 use Prim.Native.Nat.{ℕ, _*_, _-_}
 use mathlib.Core.Path.{_≡_}
-use mathlib.Core.Bool.{Bool, true, not, _&&_}
 use mathlib.Core.List.{List, [], _∷_, _++_}
-use lib.Dec.{eqb, leb, ltb}
+use lib.Dec.{eqb, leb}
 use lib.ListN.{length, take, drop}
 use Rattle.cases.specs.Cases.{pick}
-use Rattle.protection.specs.Limits.{startNames}
 use Rattle.protection.specs.State.{State}
-use Rattle.protection.specs.Size.{namesOf, stepBound}
-use Rattle.protection.specs.Command.{Command, System, Call}
-use Rattle.protection.specs.Judge.{Verdict, judge, Settled}
+use Rattle.protection.specs.Command.{System, Call}
+use Rattle.protection.specs.Judge.{leakOf, Verdict, judge, Settled}
 use Rattle.layout.specs.Refusals.{orElse}
 use Rattle.policy.specs.Refusals.{refusal}
 use Rattle.policy.specs.Contents.{fileState, fileSystem}
+use Rattle.questions.specs.Refusals.{sizeRefusal}
 use Rattle.trace.specs.Replays.{fileReplay}
 use Rattle.trace.specs.declared.Replay.the-variants.{Leak}
 use Rattle.safety.specs.Demand3.{Demand3}
@@ -22,20 +20,9 @@ use Rattle.safety.specs.declared.Judgement.{Judgement}
 use Rattle.safety.specs.declared.Judgement.the-variants.{Refused, Safe, Unsafe}
 
 -- ---- "Whoever calls for a verdict"
--- not 22, "a rule with more than one step"
-abbrev pub singleOperations : List Command → Bool
-singleOperations [] = true
-singleOperations (C ∷ Cs) = ltb (length (C .operations)) 2 && singleOperations Cs
-
--- "21 right not below g. Judge only, in this order: 22 a rule with more than one step; 23 more than 30 names exist; 24 buffer shorter than 5 × .." n is the
--- buffer's length; 0 is no refusal.
+-- "21 right not below g. Judge only, in this order: 22 .. 23 .. 24 .." n is the buffer's length; 0 is no refusal
 unfoldable pub callerRefusal : System → State → ℕ → ℕ → ℕ
-callerRefusal S m r n =
-    pick (leb (S .rights) r) 21
-    (pick (not (singleOperations (S .commands))) 22
-    (pick (ltb startNames (namesOf m)) 23
-    (pick (ltb n (5 * stepBound (S .rights) m)) 24
-    0)))
+callerRefusal S m r n = pick (leb (S .rights) r) 21 (sizeRefusal S m n)
 
 -- the refusals of whoever wrote the file come first
 unfoldable pub judgeRefusal : List ℕ → ℕ → ℕ → ℕ
@@ -83,6 +70,6 @@ pub record Judged (f : List ℕ) (r : ℕ) (b : List ℕ) (answer : Judgement) (
   pub buffer-is : b' ≡ fileBuffer f r b
   pub demand3 : FileDemand3 f r b answer b'
   -- the rounds end with an enter of r or a round that does nothing, and not by the fuel
-  pub settled : judgeRefusal f r (length b) ≡ 0 → Settled (fileSystem f) r (fileState f)
+  pub settled : judgeRefusal f r (length b) ≡ 0 → Settled (fileSystem f) (leakOf r) (fileState f)
   -- "the steps must replay": under unsafe the first 5 × n bytes are a trace whose leak is at step n − 1, the last
   pub replays : (n : ℕ) → answer ≡ Unsafe n → fileReplay f (take (5 * n) b') r ≡ Leak (n - 1)

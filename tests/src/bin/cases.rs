@@ -4,13 +4,16 @@
 use reference::brute::{self, Found, Instance, Move, State};
 use reference::desk::desk;
 use reference::file::{self, Contents};
+use reference::filled::Course;
 use reference::generate::*;
-use reference::judge::{judge, most_steps, SAFE, UNSAFE};
+use reference::judge::{judge, SAFE, UNSAFE};
 use reference::machine::{numbers, run, run_file, AccessMatrix, Bounded, Unbounded};
+use reference::need::{need, NEVER};
 use reference::random::Random;
 use reference::replay::{replay, LEAK};
 use reference::report::{hex, Arguments, Group, Report};
-use reference::{second, stored, table};
+use reference::rounds::most_steps;
+use reference::{lists, second, stored, table};
 
 /// A draft with these kinds and these rights in cells.
 fn draft(rights: u8, kinds: &[(usize, u8)], cells: &[(usize, usize, u8)]) -> Draft {
@@ -399,6 +402,43 @@ fn main() {
             format!("only {spare} with a step of a rule with spare blanks")
         });
     });
+
+    report.group(
+        "reference and second answer to a press agree",
+        300,
+        |group| {
+            let mut seen = [0; 3];
+            while group.inputs < 300 {
+                let draft = match group.inputs % 2 {
+                    0 => small(random),
+                    _ => chain(random).0,
+                };
+                let file = draft.file();
+                let contents = file::read(&file).unwrap();
+                if contents.rules.iter().any(|rule| rule.named().count() > 2) {
+                    continue;
+                }
+                let course = Course::of(&contents);
+                let list = lists::bytes(&lists::any_cells(random, &contents, course.last()));
+                let mut one = vec![170; reference::desk::BUFFER];
+                let mut other = one.clone();
+                let account = need(&file, &list, &mut one);
+                let answer = second::need(&file, &list, &mut other);
+                group.input(
+                    (account.code, account.steps) == answer && one == other,
+                    || format!("{account:?} and {answer:?}, cells {list:?}, {}", hex(&file)),
+                );
+                seen[match (account.code, account.steps) {
+                    (NEVER, _) => 0,
+                    (_, 0) => 1,
+                    _ => 2,
+                }] += 1;
+            }
+            group.demand(seen.iter().all(|&count| count >= 30), || {
+                format!("{seen:?}")
+            });
+        },
+    );
 
     report.finish();
 }

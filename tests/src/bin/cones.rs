@@ -17,7 +17,7 @@ enum Promise {
 }
 
 /// The rows of the table, with their demands.
-const ROWS: [(&str, &str, Promise); 7] = [
+const ROWS: [(&str, &str, Promise); 9] = [
     (
         "1",
         "`access_check`",
@@ -47,6 +47,16 @@ const ROWS: [(&str, &str, Promise); 7] = [
         "3",
         "`Demand3` alone",
         Promise::Definitions("safety/specs/Demand3.antt"),
+    ),
+    (
+        "1",
+        "`access_need`",
+        Promise::Contract("exports/src/lib.rt", "access_need"),
+    ),
+    (
+        "1",
+        "`HeldAfter`, `NeverHeld` alone",
+        Promise::Definitions("protection/specs/Need.antt"),
     ),
     (
         "1",

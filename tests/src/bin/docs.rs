@@ -18,6 +18,8 @@ use tugcaphi::refusals;
 mod check;
 #[path = "../boundary/judge.rs"]
 mod judge;
+#[path = "../boundary/need.rs"]
+mod need;
 #[path = "../boundary/replay.rs"]
 mod replay;
 #[path = "../boundary/run.rs"]
@@ -129,7 +131,7 @@ fn refusals_page(group: &mut Group) {
     let wanted: Vec<String> = (1..=9)
         .chain(11..=15)
         .chain(21..=24)
-        .chain([31])
+        .chain([31, 41])
         .map(|number: u8| number.to_string())
         .collect();
     group.demand(numbers == wanted, || format!("the numbers are {numbers:?}"));
@@ -251,7 +253,7 @@ fn defined(name: &str) -> usize {
 
 /// No call uses more stack than the header says, nor less than a fourth of it.
 fn stack(group: &mut Group, random: &mut Random) {
-    let mut most = [0; 4];
+    let mut most = [0; 5];
     let mut seen = |call: usize, bytes: usize| most[call] = bytes.max(most[call]);
     let mut buffer = vec![0; defined("TUGCAPHI_BUFFER")];
     for turn in 0..60 {
@@ -274,11 +276,20 @@ fn stack(group: &mut Group, random: &mut Random) {
             let trace = &buffer[..5 * steps as usize];
             seen(2, used(|| _ = replay::replay(&file, trace, right)));
         }
+        let names: Vec<u8> = (0..32).filter(|&n| draft.kinds[n as usize] == 2).collect();
+        for cells in [0, 1, 8] {
+            let ends = (names.first(), names.last());
+            let (Some(&subject), Some(&name)) = ends else {
+                continue;
+            };
+            let list = [draft.rights - 1, subject, name].repeat(cells);
+            seen(4, used(|| _ = need::need(&file, &list, &mut buffer)));
+        }
         group.inputs += 1;
     }
     println!(
-        "  check {}, run {}, replay {}, judge {} bytes",
-        most[0], most[1], most[2], most[3]
+        "  check {}, run {}, replay {}, judge {}, need {} bytes",
+        most[0], most[1], most[2], most[3], most[4]
     );
     let said = defined("TUGCAPHI_STACK");
     let highest = most.into_iter().max().unwrap_or_default();
@@ -296,6 +307,23 @@ fn buffer_length(group: &mut Group) {
     let length = defined("TUGCAPHI_BUFFER");
     for (length, wanted) in [(length, 0), (length.saturating_sub(1), 24)] {
         let code = judge::judge(&file, 0, &mut vec![0; length]).0;
+        group.input(code == wanted, || format!("judge, {length} bytes: {code}"));
+        let code = need::need(&file, &[0, 0, 0], &mut vec![0; length]).0;
+        group.input(code == wanted, || format!("need, {length} bytes: {code}"));
+    }
+}
+
+/// A list of as many cells as the header says is taken; a byte less or more, or
+/// one more cell, is not.
+fn list_length(group: &mut Group) {
+    let mut draft = Draft::empty(1);
+    draft.kinds[0] = 2;
+    let file = draft.file();
+    let (cell, cells) = (defined("TUGCAPHI_CELL"), defined("TUGCAPHI_CELLS"));
+    let most = cell * cells;
+    let mut buffer = vec![0; defined("TUGCAPHI_BUFFER")];
+    for (length, wanted) in [(most, 0), (most - 1, 41), (most + 1, 41), (most + cell, 41)] {
+        let code = need::need(&file, &vec![0; length], &mut buffer).0;
         group.input(code == wanted, || format!("{length} bytes: {code}"));
     }
 }
@@ -350,9 +378,10 @@ fn main() {
     let mut random = Random::new(arguments.seed);
     let mut report = Report::default();
     report.group("docs/FORMAT.md: the worked example", 7, format_page);
-    report.group("docs/REFUSALS.md: the program's words", 19, refusals_page);
+    report.group("docs/REFUSALS.md: the program's words", 20, refusals_page);
     report.group("include/tugcaphi.h and its example", 3, header);
-    report.group("include/tugcaphi.h: the buffer", 2, buffer_length);
+    report.group("include/tugcaphi.h: the buffer", 4, buffer_length);
+    report.group("include/tugcaphi.h: the list of cells", 4, list_length);
     report.group("install", 4, install);
     report.group("README.md: the crates of a build", 1, crates_of_a_build);
     report.group("links of the pages", 20, links);

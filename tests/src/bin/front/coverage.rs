@@ -12,20 +12,23 @@ use tugcaphi::table::mistake::Code;
 
 /// The exit statuses that each command has. A table that is read makes no file
 /// that is refused, so `make` has no 2 here; `back` has it.
-const STATUSES: [(&str, &[i32]); 6] = [
+const STATUSES: [(&str, &[i32]); 7] = [
     ("make", &[0, 3]),
     ("show", &[0, 2, 3]),
     ("check", &[0, 2, 3]),
     ("judge", &[0, 1, 2, 3]),
+    ("need", &[0, 1, 2, 3]),
     ("run", &[0, 2, 3]),
     ("replay", &[0, 1, 2, 3]),
 ];
 
 /// The judge's buffer is always long enough, so no 24.
-const REFUSALS: [u8; 17] = [1, 2, 3, 4, 5, 6, 7, 8, 9, 11, 12, 14, 15, 21, 22, 23, 31];
+const REFUSALS: [u8; 18] = [
+    1, 2, 3, 4, 5, 6, 7, 8, 9, 11, 12, 14, 15, 21, 22, 23, 31, 41,
+];
 
 pub fn run(report: &mut Report, shown: &Shown) {
-    report.group("every command with every exit status", 19, |group| {
+    report.group("every command with every exit status", 23, |group| {
         statuses(group, shown)
     });
     report.group("what went wrong comes with what to do", 150, |group| {
@@ -38,14 +41,14 @@ pub fn run(report: &mut Report, shown: &Shown) {
     report.group("every mistake of the table reader", 37, |group| {
         mistakes(group, shown)
     });
-    report.group("every refusal that the program can meet", 17, |group| {
+    report.group("every refusal that the program can meet", 18, |group| {
         refusals(group, shown)
     });
     let answers = answers(shown);
     report.group("answers for programs are as the schema says", 20, |group| {
         valid(group, &answers)
     });
-    report.group("every sort of answer for programs", 19, |group| {
+    report.group("every sort of answer for programs", 23, |group| {
         sorts(group, &answers)
     });
 }
@@ -93,11 +96,12 @@ fn refusals(group: &mut Group, shown: &Shown) {
 }
 
 /// What every answer for programs can be, by its command.
-const ANSWERS: [(&str, &[&str]); 6] = [
+const ANSWERS: [(&str, &[&str]); 7] = [
     ("make", &["made", "error"]),
     ("show", &["shown", "refused", "error"]),
     ("check", &["accepted", "refused", "failed"]),
     ("judge", &["safe", "unsafe", "refused", "error"]),
+    ("need", &["held", "never", "refused", "error"]),
     ("run", &["done", "refused", "error"]),
     ("replay", &["no leak", "leak", "refused", "error"]),
 ];

@@ -1,6 +1,6 @@
 //! The front program `tugcaphi`: transcripts of every command, exit status and
 //! mistake in a table, random tables there and back, damaged texts, the places of refusals,
-//! steps in words against a replay, pictures, pages and answers for programs,
+//! steps in words against a replay, what a press needs in words, pictures, pages and answers for programs,
 //! and the examples in the docs. Arguments: the seed, the number of random
 //! tables. The executable is `../target/cli/release/tugcaphi`, or TUGCAPHI names
 //! it. With FRONT_BLESS set the transcripts are written anew; read the difference.
@@ -13,8 +13,10 @@ mod extents;
 mod garbage;
 mod grids;
 mod json;
+mod needs;
 mod pages;
 mod places;
+mod reading;
 mod schema;
 mod sentences;
 mod stories;
@@ -43,6 +45,7 @@ fn main() {
     back::run(&mut report, seed);
     places::run(&mut report, seed);
     stories::run(&mut report, seed);
+    needs::run(&mut report, seed);
     pages::run(&mut report, seed);
     terminals::run(&mut report);
     report.finish();

@@ -5,15 +5,15 @@
 //! are told.
 
 use super::execute::Folder;
+use super::reading::{Effect, Line, Reading};
 use super::wording::Wording;
-use reference::file::{self, Rule};
+use reference::file;
 use reference::generate::{chain, large, likely_run, lively, small, Draft};
 use reference::machine::run_file;
 use reference::random::Random;
 use reference::replay::{replay, LEAK};
 use reference::report::{Group, Report};
 use reference::table::file as file_of;
-use std::collections::BTreeMap;
 use std::fs;
 use tugcaphi::input::Content;
 use tugcaphi::library::{self, Judgement};
@@ -114,7 +114,7 @@ pub fn single(random: &mut Random, mut draft: impl FnMut(&mut Random) -> Draft) 
     }
 }
 
-fn words_of(wording: &Wording) -> Words {
+pub fn words_of(wording: &Wording) -> Words {
     let rules = wording.rules.iter().zip(&wording.blanks);
     Words {
         plain: false,
@@ -162,197 +162,60 @@ fn held(group: &mut Group, words: &Words, file: &[u8], printed: &str) -> u64 {
     });
     let mut spare = 0;
     for (right, verdict) in verdicts.iter().enumerate() {
-        let said = reading.verdict(right, verdict, file);
+        let said = self::verdict(&reading, right, verdict, file);
         group.input(said.is_ok(), || format!("{said:?} in {verdict:?}"));
         spare += said.unwrap_or(0);
     }
     spare
 }
 
-/// What the words stand for.
-struct Reading {
-    rights: BTreeMap<String, usize>,
-    names: BTreeMap<String, usize>,
-    rules: BTreeMap<String, usize>,
-}
-
-impl Reading {
-    fn new(words: &Words) -> Reading {
-        let name = |(i, word): (usize, &Option<String>)| match word {
-            Some(word) => (word.clone(), i),
-            None => (i.to_string(), i),
-        };
-        let numbered = |words: Vec<&String>| {
-            let words = words.into_iter().enumerate();
-            words.map(|(i, word)| (word.clone(), i)).collect()
-        };
-        Reading {
-            rights: numbered(words.rights.iter().collect()),
-            names: words.names.iter().enumerate().map(name).collect(),
-            rules: numbered(words.rules.iter().map(|rule| &rule.rule).collect()),
-        }
+/// A verdict is the library's, with what is told of it.
+fn verdict(reading: &Reading, right: usize, lines: &[&str], file: &[u8]) -> Result<u64, String> {
+    let mut head = Line::new(lines[0]);
+    let asked = reading.find(&reading.rights, &head.word()?)?;
+    let verdict = head.word()?;
+    if asked != right {
+        return Err(format!("right {asked} in place of {right}"));
     }
-
-    fn verdict(&self, right: usize, lines: &[&str], file: &[u8]) -> Result<u64, String> {
-        let mut head = Line::new(lines[0]);
-        let asked = self.find(&self.rights, &head.word()?)?;
-        let verdict = head.word()?;
-        if asked != right {
-            return Err(format!("right {asked} in place of {right}"));
+    let mut buffer = vec![0; 50_000];
+    let answer = library::judge(file, right as u8, &mut buffer);
+    match (verdict.as_str(), answer) {
+        ("SAFE", Judgement::Safe(_)) => holding(lines[0], right, file).map(|()| 0),
+        ("UNSAFE", Judgement::Unsafe(steps)) => {
+            let trace = &buffer[..5 * steps as usize];
+            leaking(reading, right, &lines[1..], file, trace)
         }
-        let mut buffer = vec![0; 50_000];
-        let answer = library::judge(file, right as u8, &mut buffer);
-        match (verdict.as_str(), answer) {
-            ("SAFE", Judgement::Safe(_)) => holding(lines[0], right, file).map(|()| 0),
-            ("UNSAFE", Judgement::Unsafe(steps)) => {
-                let trace = &buffer[..5 * steps as usize];
-                self.steps(right, &lines[1..], file, trace)
-            }
-            (verdict, answer) => Err(format!("{verdict}, the library says {answer:?}")),
-        }
-    }
-
-    /// The steps are the judge's, each does what is said of it, and the last one leaks.
-    fn steps(
-        &self,
-        right: usize,
-        lines: &[&str],
-        file: &[u8],
-        trace: &[u8],
-    ) -> Result<u64, String> {
-        let (last, steps) = lines.split_last().ok_or("no steps")?;
-        let rules = file::read(file).expect("an accepted file").rules;
-        let mut state = file.to_vec();
-        let mut told = Vec::new();
-        let mut entered = None;
-        let mut spare = 0;
-        for (i, line) in steps.iter().enumerate() {
-            let mut words = Line::new(line.trim_start());
-            words.expect(&format!("{}.", i + 1))?;
-            let step = self.call(&mut words, &rules, Jobs::LeftOut)?;
-            let before = state.clone();
-            let [rule, a, b, c, d] = step;
-            spare += u64::from(!rules[usize::from(rule)].spare.is_empty());
-            let refusal = run_file(&mut state, rule, [a, b, c, d]);
-            let effect = difference(&before, &state);
-            let said = self.clause(&mut words)?;
-            if refusal != 0 || effect != vec![said.clone()] {
-                return Err(format!(
-                    "step {}: {refusal}, {effect:?}, said {said:?}",
-                    i + 1
-                ));
-            }
-            told.extend(step);
-            entered = Some(said);
-        }
-        let mut words = Line::new(last.trim_start());
-        words.expect("So")?;
-        let came = self.find(&self.rights, &words.word()?)?;
-        words.expect("comes")?;
-        words.expect("into")?;
-        let cell = self.cell(&mut words)?;
-        if entered != Some(Effect::Enter(came, cell.0, cell.1)) || came != right {
-            return Err(format!("{entered:?} is not what came in at the end"));
-        }
-        let (code, step) = replay(file, &told, right as u8);
-        if told != trace || code != LEAK || step as usize + 1 != steps.len() {
-            return Err(format!(
-                "replayed {code} at {step}, told {told:?}, trace {trace:?}"
-            ));
-        }
-        Ok(spare)
-    }
-
-    fn find(&self, words: &BTreeMap<String, usize>, word: &str) -> Result<usize, String> {
-        words
-            .get(word)
-            .copied()
-            .ok_or_else(|| format!("nothing is called {word:?}"))
-    }
-
-    /// `lend (Ada, job 117)` as five bytes. Left out, a job number is 0.
-    fn call(&self, line: &mut Line, rules: &[Rule], jobs: Jobs) -> Result<[u8; 5], String> {
-        let number = self.find(&self.rules, &line.word()?)?;
-        let rule = &rules[number];
-        let mut step = [255; 5];
-        step[0] = number as u8;
-        let mut between = "(";
-        for blank in 0..rule.blanks {
-            let spare = rule.spare.contains(&blank);
-            if spare && jobs == Jobs::LeftOut {
-                step[1 + blank] = 0;
-                continue;
-            }
-            line.expect(between)?;
-            between = ",";
-            step[1 + blank] = match spare {
-                true => {
-                    line.expect("job ")?;
-                    let number = line.word()?;
-                    number.parse().map_err(|_| format!("job {number}"))?
-                }
-                false => self.find(&self.names, &line.word()?)? as u8,
-            };
-        }
-        line.expect(")")?;
-        Ok(step)
-    }
-
-    fn cell(&self, line: &mut Line) -> Result<(usize, usize), String> {
-        line.expect("(")?;
-        let subject = self.find(&self.names, &line.word()?)?;
-        line.expect(",")?;
-        let object = self.find(&self.names, &line.word()?)?;
-        line.expect(")")?;
-        Ok((subject, object))
-    }
-
-    fn clause(&self, line: &mut Line) -> Result<Effect, String> {
-        let verb = line.word()?;
-        if verb == "creates" {
-            line.expect("the")?;
-            let kind = if line.word()? == "subject" { 2 } else { 1 };
-            return Ok(Effect::Kind(self.find(&self.names, &line.word()?)?, kind));
-        }
-        let right = self.find(&self.rights, &line.word()?)?;
-        line.expect(if verb == "enters" { "into" } else { "from" })?;
-        let (subject, object) = self.cell(line)?;
-        match verb.as_str() {
-            "enters" => Ok(Effect::Enter(right, subject, object)),
-            "deletes" => Ok(Effect::Delete(right, subject, object)),
-            _ => Err(format!("no verb: {verb}")),
-        }
+        (verdict, answer) => Err(format!("{verdict}, the library says {answer:?}")),
     }
 }
 
-#[derive(Clone, Debug, PartialEq)]
-enum Effect {
-    Enter(usize, usize, usize),
-    Delete(usize, usize, usize),
-    /// A name that has another kind.
-    Kind(usize, u8),
-}
-
-/// What is otherwise in the second file, by its bytes.
-fn difference(before: &[u8], after: &[u8]) -> Vec<Effect> {
-    let kinds = file::kinds_offset(before);
-    let mut effects = Vec::new();
-    for name in 0..32 {
-        if before[kinds + name] != after[kinds + name] {
-            effects.push(Effect::Kind(name, after[kinds + name]));
-        }
+/// The steps are the judge's, each does what is said of it, and the last one leaks.
+fn leaking(
+    reading: &Reading,
+    right: usize,
+    lines: &[&str],
+    file: &[u8],
+    trace: &[u8],
+) -> Result<u64, String> {
+    let (last, steps) = lines.split_last().ok_or("no steps")?;
+    let told = reading.steps(steps, file)?;
+    let mut words = Line::new(last.trim_start());
+    words.expect("So")?;
+    let came = reading.find(&reading.rights, &words.word()?)?;
+    words.expect("comes")?;
+    words.expect("into")?;
+    let cell = reading.cell(&mut words)?;
+    if told.last != Some(Effect::Enter(came, cell.0, cell.1)) || came != right {
+        return Err(format!("{:?} is not what came in at the end", told.last));
     }
-    for cell in 0..1024 {
-        let (old, new) = (before[kinds + 32 + cell], after[kinds + 32 + cell]);
-        for right in (0..8).filter(|right| (old ^ new) >> right & 1 == 1) {
-            let (subject, object) = (cell / 32, cell % 32);
-            effects.push(match new >> right & 1 {
-                1 => Effect::Enter(right, subject, object),
-                _ => Effect::Delete(right, subject, object),
-            });
-        }
+    let (code, step) = replay(file, &told.trace, right as u8);
+    if told.trace != trace || code != LEAK || step as usize + 1 != steps.len() {
+        let told = told.trace;
+        return Err(format!(
+            "replayed {code} at {step}, told {told:?}, trace {trace:?}"
+        ));
     }
-    effects
+    Ok(told.spare)
 }
 
 /// SAFE tells how many cells hold the right.
@@ -370,58 +233,5 @@ fn holding(line: &str, right: usize, file: &[u8]) -> Result<(), String> {
     match line.contains(&wanted) {
         true => Ok(()),
         false => Err(format!("{count} cells hold it: {line}")),
-    }
-}
-
-/// The words of a printed line; quotes and escapes as in a table.
-struct Line<'a> {
-    rest: &'a str,
-}
-
-impl Line<'_> {
-    fn new(rest: &str) -> Line<'_> {
-        Line { rest }
-    }
-
-    fn passes(&mut self, text: &str) -> bool {
-        self.rest = self.rest.trim_start();
-        match self.rest.strip_prefix(text) {
-            Some(rest) => {
-                self.rest = rest;
-                true
-            }
-            None => false,
-        }
-    }
-
-    fn expect(&mut self, text: &str) -> Result<(), String> {
-        match self.passes(text) {
-            true => Ok(()),
-            false => Err(format!("no {text} at: {}", self.rest)),
-        }
-    }
-
-    fn word(&mut self) -> Result<String, String> {
-        self.rest = self.rest.trim_start();
-        let Some(quoted) = self.rest.strip_prefix('"') else {
-            let end = self
-                .rest
-                .find([' ', ',', ')', '(', ':'])
-                .unwrap_or(self.rest.len());
-            let (word, rest) = self.rest.split_at(end);
-            self.rest = rest;
-            return Ok(word.to_string());
-        };
-        let mut word = String::new();
-        let mut characters = quoted.chars();
-        loop {
-            match characters.next().ok_or("an open quote")? {
-                '"' => break,
-                '\\' => word.extend(characters.next()),
-                character => word.push(character),
-            }
-        }
-        self.rest = characters.as_str();
-        Ok(word)
     }
 }

@@ -39,7 +39,7 @@ pub fn run(report: &mut Report) {
         let said = in_pipe(&folder, &judge);
         group.input(!coloured(&said), || "colour in a pipe".into());
     });
-    report.group("the grid's width on a terminal alone", 4, |group| {
+    report.group("the grid's width on a terminal alone", 7, |group| {
         let show = ["show", "wide.table"];
         for columns in [60, 100] {
             let said = on_terminal(&folder, &show, &[("TERM", "dumb")], columns);
@@ -50,6 +50,18 @@ pub fn run(report: &mut Report) {
         }
         let wide = grid_width(&in_pipe(&folder, &show));
         group.input(wide > 180, || format!("the grid in a pipe is {wide} wide"));
+        let need = ["need", "wide.table", "own", "formula2", "formula1"];
+        for columns in [60, 100] {
+            let said = on_terminal(&folder, &need, &[("TERM", "dumb")], columns);
+            let wide = needed_width(&said.0);
+            group.input(wide <= columns && said.0.contains("formula20"), || {
+                format!("a grid of {wide} on {columns} columns after the steps")
+            });
+        }
+        let wide = needed_width(&in_pipe(&folder, &need));
+        group.input(wide > 180, || {
+            format!("the grid after the steps is {wide} wide in a pipe")
+        });
         let said = on_terminal(&folder, &["make", "wide.table", "-o", "-"], &[], 80);
         group.input(said.1 == 3, || "a house file on a terminal".into());
     });
@@ -62,6 +74,12 @@ fn in_pipe(folder: &Folder, words: &[&str]) -> String {
 
 fn grid_width(text: &str) -> usize {
     let grid = text.lines().filter(|line| line.starts_with('#'));
+    grid.map(|line| line.chars().count()).max().unwrap_or(0)
+}
+
+/// The lines of a grid that stands in no comments have an edge.
+fn needed_width(text: &str) -> usize {
+    let grid = text.lines().filter(|line| line.contains(['│', '┼']));
     grid.map(|line| line.chars().count()).max().unwrap_or(0)
 }
 

@@ -1,0 +1,3 @@
+pub mod Counts
+pub mod Refusals
+pub mod Starting

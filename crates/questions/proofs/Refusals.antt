@@ -1,0 +1,121 @@
+-- Refusals 22 to 24: what the code tests, and what holds where none is given. Assumes nothing.
+use Prim.Native.Nat.{ℕ, zero, suc, _+_, _*_, _-_, _≤_, _<_}
+use mathlib.Core.Path.{_≡_, refl, sym, ap, ap₂, _∙_}
+use mathlib.Core.Bool.{Bool, true, false, not, _&&_}
+use mathlib.Core.List.{[]}
+use native.Mathlib.Omega.{arith}
+use native.Mathlib.Nat.{sub-zero}
+use native.Mathlib.Decide.{decLt}
+use borrow.Author.Tests.{lt-ltb, le-ltb}
+use lib.Dec.{ltb, ltb→lt}
+use lib.ListN.{getD}
+use Rattle.cases.specs.Cases.{pick, all, tabulate}
+use Rattle.cases.proofs.Bools.{holds as test-holds}
+use Rattle.cases.proofs.Loops.{all-at, all-false, all-true}
+use Rattle.protection.specs.Limits.{startNames}
+use Rattle.protection.specs.State.{State}
+use Rattle.protection.specs.Size.{namesOf, stepBound}
+use Rattle.protection.specs.Command.{System}
+use Rattle.matrix.specs.Bytes.{view}
+use Rattle.matrix.specs.Matrices.{stateOf}
+use Rattle.commands.specs.Contents.{missing}
+use Rattle.commands.proofs.Reading.{operations-length}
+use Rattle.commands.specs.declared.Command.{Command}
+use Rattle.policy.specs.Contents.{systemOf}
+use Rattle.policy.specs.Fits.{PolicyFits}
+use Rattle.policy.specs.declared.Policy.{Policy}
+use Rattle.goals.specs.Goals.{GoalFits}
+use Rattle.goals.specs.declared.Goal.{Goal}
+use Rattle.visits.specs.Engine.{boundOf, commandNumber, Asked}
+use Rattle.questions.specs.Refusals.{singleOperations, sizeRefusal}
+
+-- ---- commands of one operation, by their numbers
+abbrev pub oneOperation : Policy → ℕ → Bool
+oneOperation p i = ltb (getD (p .command) i missing .operations) 2
+
+single-all : (p : Policy) → PolicyFits p → (n j : ℕ) → j + n ≤ p .commands → singleOperations (tabulate (commandNumber p) n j) ≡ all (oneOperation p) n j
+unfolding all
+single-all p F zero j l = refl
+single-all p F (suc n) j l =
+    ap₂ _&&_ (ap (λ (k : ℕ). ltb k 2) (operations-length (p .rights) (getD (p .command) j missing) (F .commands-fit j (omega arith)) (F .few-rights))) (single-all p F n (suc j) (omega arith))
+    ∙ both (oneOperation p j) (all (oneOperation p) n (suc j))
+  where
+    both : (b c : Bool) → b && c ≡ pick b c false
+    both true c = refl
+    both false c = refl
+
+pub single-start : (p : Policy) → PolicyFits p → (n : ℕ) → n ≡ p .commands → all (oneOperation p) (n - 0) 0 ≡ singleOperations (systemOf p .commands)
+single-start p F n e = rw (sub-zero n, e) (sym (single-all p F (p .commands) 0 (omega arith)))
+
+pub single-many : (p : Policy) (n i : ℕ) (whole : Bool) (c : Command) → c ≡ getD (p .command) i missing → 2 ≤ c .operations → i < n → all (oneOperation p) (n - i) i ≡ whole → false ≡ whole
+single-many p n i whole c e h l = all-false (oneOperation p) n whole i (le-ltb (getD (p .command) i missing .operations) 2 (rw e at h)) l
+
+pub single-next : (p : Policy) (n i : ℕ) (whole : Bool) (c : Command) → c ≡ getD (p .command) i missing → c .operations < 2 → i < n → all (oneOperation p) (n - i) i ≡ whole
+    → all (oneOperation p) (n - (i + 1)) (i + 1) ≡ whole
+single-next p n i whole c e h l = all-true (oneOperation p) n whole i (lt-ltb (getD (p .command) i missing .operations) 2 (rw e at h)) l
+
+-- ---- what the code tests, one after the other
+module _ (p : Policy) (n : ℕ) (b : Bool) (e : b ≡ singleOperations (systemOf p .commands)) where
+  abbrev answer : ℕ
+  answer = sizeRefusal (systemOf p) (stateOf (p .matrix)) n
+
+  pub size-22 : not b ≡ true → 22 ≡ answer
+  size-22 f = rw (← e, f)
+
+  module _ (f : not b ≡ false) (k : ℕ) (d : k ≡ namesOf (view (p .matrix .kinds) [])) where
+    pub size-23 : 30 < k → 23 ≡ answer
+    size-23 h = let z : ltb 30 (namesOf (stateOf (p .matrix))) ≡ true = lt-ltb 30 (namesOf (stateOf (p .matrix))) (rw d at h) in rw (← e, f, z)
+
+    module _ (h : k ≤ 30) (m : ℕ) (q : m ≡ boundOf p) where
+      few : ltb 30 (namesOf (stateOf (p .matrix))) ≡ false
+      few = le-ltb 30 (namesOf (stateOf (p .matrix))) (rw d at h)
+
+      pub size-24 : n < 5 * m → 24 ≡ answer
+      size-24 o = let z : ltb n (5 * boundOf p) ≡ true = lt-ltb n (5 * boundOf p) (rw q at o) in rw (← e, f, few, z)
+
+      pub size-none : 5 * m ≤ n → 0 ≡ answer
+      size-none o = let z : ltb n (5 * boundOf p) ≡ false = le-ltb n (5 * boundOf p) (rw q at o) in rw (← e, f, few, z)
+
+-- ---- a question that is not refused
+not-less : (a b : ℕ) → ltb a b ≡ false → b ≤ a
+not-less a b q = go (decLt a b)
+  where
+    go : Dec (a < b) → b ≤ a
+    go (yes l) = absurd (let z : _≡_ {A = Bool} true false = sym (lt-ltb a b l) ∙ q in let w : _≡_ {A = ℕ} 0 1 = cc in omega arith)
+    go (no f) = omega arith
+
+pub record Sized (S : System) (m : State) (n : ℕ) : Type 0 where
+  pub single : singleOperations (S .commands) ≡ true
+  pub few-names : namesOf m ≤ startNames
+  pub room : 5 * stepBound (S .rights) m ≤ n
+
+pub sized : (S : System) (m : State) (n : ℕ) → sizeRefusal S m n ≡ 0 → Sized S m n
+sized S m n e = go (singleOperations (S .commands)) (ltb startNames (namesOf m)) (ltb n (5 * stepBound (S .rights) m)) refl refl refl e
+  where
+    nonzero : (k : ℕ) → suc k ≡ 0 → ⊥
+    nonzero k q = omega arith
+
+    go : (b c d : Bool) → singleOperations (S .commands) ≡ b → ltb startNames (namesOf m) ≡ c → ltb n (5 * stepBound (S .rights) m) ≡ d
+        → _≡_ {A = ℕ} (pick (not b) 22 (pick c 23 (pick d 24 0))) 0 → Sized S m n
+    go false c d eb ec ed q = absurd (nonzero 21 q)
+    go true true d eb ec ed q = absurd (nonzero 22 q)
+    go true false true eb ec ed q = absurd (nonzero 23 q)
+    go true false false eb ec ed q = record { single = eb; few-names = not-less startNames (namesOf m) ec; room = not-less n (5 * stepBound (S .rights) m) ed }
+
+-- the engine's question is asked where nothing is refused
+pub goal-asked : (p : Policy) (G : Goal) (n : ℕ) → sizeRefusal (systemOf p) (stateOf (p .matrix)) n ≡ 0 → PolicyFits p → GoalFits G → Asked p G n
+goal-asked p G n e F H = record {
+  fits = F;
+  goal = H;
+  single = record {
+    one-step = λ i l.
+        let whole : all (oneOperation p) (p .commands) 0 ≡ true = sym (single-all p F (p .commands) 0 (omega arith)) ∙ P .single in
+        let few : getD (p .command) i missing .operations < 2 = ltb→lt (getD (p .command) i missing .operations) 2 (test-holds (oneOperation p i) (all-at (oneOperation p) (p .commands) 0 whole i (omega arith) (omega arith))) in
+        omega (arith, F .commands-fit i l .some-operation);
+  };
+  few-names = P .few-names;
+  room = P .room;
+}
+  where
+    P : Sized (systemOf p) (stateOf (p .matrix)) n
+    P = sized (systemOf p) (stateOf (p .matrix)) n e

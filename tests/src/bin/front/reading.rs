@@ -1,0 +1,220 @@
+//! Printed steps read back into numbers: the words of a line, what they stand
+//! for, and what each step does on the reference's machine.
+
+use reference::file::{self, Rule};
+use reference::machine::run_file;
+use std::collections::BTreeMap;
+use tugcaphi::story::Jobs;
+use tugcaphi::words::Words;
+
+/// Steps that were read and carried out.
+pub struct Carried {
+    pub trace: Vec<u8>,
+    /// The file that they lead to.
+    pub file: Vec<u8>,
+    /// What the last one did.
+    pub last: Option<Effect>,
+    /// How many are of rules with spare blanks.
+    pub spare: u64,
+}
+
+/// What the words stand for.
+pub struct Reading {
+    pub rights: BTreeMap<String, usize>,
+    pub names: BTreeMap<String, usize>,
+    pub rules: BTreeMap<String, usize>,
+}
+
+impl Reading {
+    pub fn new(words: &Words) -> Reading {
+        let name = |(i, word): (usize, &Option<String>)| match word {
+            Some(word) => (word.clone(), i),
+            None => (i.to_string(), i),
+        };
+        let numbered = |words: Vec<&String>| {
+            let words = words.into_iter().enumerate();
+            words.map(|(i, word)| (word.clone(), i)).collect()
+        };
+        Reading {
+            rights: numbered(words.rights.iter().collect()),
+            names: words.names.iter().enumerate().map(name).collect(),
+            rules: numbered(words.rules.iter().map(|rule| &rule.rule).collect()),
+        }
+    }
+
+    /// Steps without job numbers, numbered from 1: each can be done, and does what
+    /// is said of it.
+    pub fn steps(&self, lines: &[&str], file: &[u8]) -> Result<Carried, String> {
+        let rules = file::read(file).expect("an accepted file").rules;
+        let mut carried = Carried {
+            trace: Vec::new(),
+            file: file.to_vec(),
+            last: None,
+            spare: 0,
+        };
+        for (i, line) in lines.iter().enumerate() {
+            let mut words = Line::new(line.trim_start());
+            words.expect(&format!("{}.", i + 1))?;
+            let step = self.call(&mut words, &rules, Jobs::LeftOut)?;
+            let before = carried.file.clone();
+            let [rule, a, b, c, d] = step;
+            let refusal = run_file(&mut carried.file, rule, [a, b, c, d]);
+            let effect = difference(&before, &carried.file);
+            let said = self.clause(&mut words)?;
+            if refusal != 0 || effect != vec![said.clone()] {
+                return Err(format!(
+                    "step {}: {refusal}, {effect:?}, said {said:?}",
+                    i + 1
+                ));
+            }
+            carried.spare += u64::from(!rules[usize::from(rule)].spare.is_empty());
+            carried.trace.extend(step);
+            carried.last = Some(said);
+        }
+        Ok(carried)
+    }
+
+    pub fn find(&self, words: &BTreeMap<String, usize>, word: &str) -> Result<usize, String> {
+        words
+            .get(word)
+            .copied()
+            .ok_or_else(|| format!("nothing is called {word:?}"))
+    }
+
+    /// `lend (Ada, job 117)` as five bytes. Left out, a job number is 0.
+    pub fn call(&self, line: &mut Line, rules: &[Rule], jobs: Jobs) -> Result<[u8; 5], String> {
+        let number = self.find(&self.rules, &line.word()?)?;
+        let rule = &rules[number];
+        let mut step = [255; 5];
+        step[0] = number as u8;
+        let mut between = "(";
+        for blank in 0..rule.blanks {
+            let spare = rule.spare.contains(&blank);
+            if spare && jobs == Jobs::LeftOut {
+                step[1 + blank] = 0;
+                continue;
+            }
+            line.expect(between)?;
+            between = ",";
+            step[1 + blank] = match spare {
+                true => {
+                    line.expect("job ")?;
+                    let number = line.word()?;
+                    number.parse().map_err(|_| format!("job {number}"))?
+                }
+                false => self.find(&self.names, &line.word()?)? as u8,
+            };
+        }
+        line.expect(")")?;
+        Ok(step)
+    }
+
+    pub fn cell(&self, line: &mut Line) -> Result<(usize, usize), String> {
+        line.expect("(")?;
+        let subject = self.find(&self.names, &line.word()?)?;
+        line.expect(",")?;
+        let object = self.find(&self.names, &line.word()?)?;
+        line.expect(")")?;
+        Ok((subject, object))
+    }
+
+    fn clause(&self, line: &mut Line) -> Result<Effect, String> {
+        let verb = line.word()?;
+        if verb == "creates" {
+            line.expect("the")?;
+            let kind = if line.word()? == "subject" { 2 } else { 1 };
+            return Ok(Effect::Kind(self.find(&self.names, &line.word()?)?, kind));
+        }
+        let right = self.find(&self.rights, &line.word()?)?;
+        line.expect(if verb == "enters" { "into" } else { "from" })?;
+        let (subject, object) = self.cell(line)?;
+        match verb.as_str() {
+            "enters" => Ok(Effect::Enter(right, subject, object)),
+            "deletes" => Ok(Effect::Delete(right, subject, object)),
+            _ => Err(format!("no verb: {verb}")),
+        }
+    }
+}
+
+#[derive(Clone, Debug, PartialEq)]
+pub enum Effect {
+    Enter(usize, usize, usize),
+    Delete(usize, usize, usize),
+    /// A name that has another kind.
+    Kind(usize, u8),
+}
+
+/// What is otherwise in the second file, by its bytes.
+fn difference(before: &[u8], after: &[u8]) -> Vec<Effect> {
+    let kinds = file::kinds_offset(before);
+    let mut effects = Vec::new();
+    for name in 0..32 {
+        if before[kinds + name] != after[kinds + name] {
+            effects.push(Effect::Kind(name, after[kinds + name]));
+        }
+    }
+    for cell in 0..1024 {
+        let (old, new) = (before[kinds + 32 + cell], after[kinds + 32 + cell]);
+        for right in (0..8).filter(|right| (old ^ new) >> right & 1 == 1) {
+            let (subject, object) = (cell / 32, cell % 32);
+            effects.push(match new >> right & 1 {
+                1 => Effect::Enter(right, subject, object),
+                _ => Effect::Delete(right, subject, object),
+            });
+        }
+    }
+    effects
+}
+
+/// The words of a printed line; quotes and escapes as in a table.
+pub struct Line<'a> {
+    pub rest: &'a str,
+}
+
+impl Line<'_> {
+    pub fn new(rest: &str) -> Line<'_> {
+        Line { rest }
+    }
+
+    pub fn passes(&mut self, text: &str) -> bool {
+        self.rest = self.rest.trim_start();
+        match self.rest.strip_prefix(text) {
+            Some(rest) => {
+                self.rest = rest;
+                true
+            }
+            None => false,
+        }
+    }
+
+    pub fn expect(&mut self, text: &str) -> Result<(), String> {
+        match self.passes(text) {
+            true => Ok(()),
+            false => Err(format!("no {text} at: {}", self.rest)),
+        }
+    }
+
+    pub fn word(&mut self) -> Result<String, String> {
+        self.rest = self.rest.trim_start();
+        let Some(quoted) = self.rest.strip_prefix('"') else {
+            let end = self
+                .rest
+                .find([' ', ',', ')', '(', ':'])
+                .unwrap_or(self.rest.len());
+            let (word, rest) = self.rest.split_at(end);
+            self.rest = rest;
+            return Ok(word.to_string());
+        };
+        let mut word = String::new();
+        let mut characters = quoted.chars();
+        loop {
+            match characters.next().ok_or("an open quote")? {
+                '"' => break,
+                '\\' => word.extend(characters.next()),
+                character => word.push(character),
+            }
+        }
+        self.rest = characters.as_str();
+        Ok(word)
+    }
+}
