@@ -20,8 +20,6 @@ use Rattle.protection.proofs.Saturation.{Taken, rounds-settled}
 use Rattle.protection.proofs.Needed.{need-held, need-never, need-bound}
 use Rattle.matrix.specs.Matrices.{stateOf}
 use Rattle.matrix.proofs.Inverse.{view-proper}
-use Rattle.masks.specs.Told.{Told}
-use Rattle.masks.specs.declared.Tables.{Tables}
 use Rattle.layout.specs.Refusals.{orElse}
 use Rattle.policy.specs.Refusals.{refusal}
 use Rattle.policy.specs.Contents.{systemOf, policyOf, policyRead, fileState, fileSystem}
@@ -39,7 +37,7 @@ use Rattle.trace.specs.Traces.{stepCall, calls}
 use Rattle.visits.specs.Engine.{Course, progressOf, Asked}
 use Rattle.visits.proofs.Asked.{taken, room-left}
 use Rattle.questions.specs.Refusals.{sizeRefusal}
-use Rattle.questions.specs.Rounded.{Copied, Ended}
+use Rattle.questions.specs.Rounded.{Ended}
 use Rattle.questions.proofs.Refusals.{goal-asked}
 use Rattle.safety.specs.Judgement.{filled}
 use Rattle.safety.proofs.Buffers.{calls-back, buffer-filled}
@@ -52,9 +50,6 @@ use Rattle.needs.proofs.Listed.{Listed, listed, taken-there, goal-fits}
 -- ---- the rounds of a goal of cells
 pub need-asked : (p : Policy) (l : List ℕ) (n : ℕ) (G : Goal) → G ≡ heldGoal l → Asked p (heldGoal l) n → Asked p G n
 need-asked p l n G e A = rw e A
-
-pub need-copied : (p : Policy) (t : Tables) → Told (p .matrix .cells) t → Copied p (p .matrix .kinds) (p .matrix .cells) (t .row) (t .col)
-need-copied p t h = record { kinds = refl; cells = refl; told = h }
 
 module _ (p : Policy) (l b : List ℕ) (G : Goal) (e : G ≡ heldGoal l) (j : Course) (b' : List ℕ) (E : Ended p G j b' b) where
   progress-is : progressOf j b' ≡ needRounds p l
