@@ -65,9 +65,10 @@ extern "C" {
 
 /*
  * Bytes of stack that are enough for each call. This is measured and not proved: access_check used about 6,000 bytes, access_run
- * and access_replay 13,500, access_judge 24,000, access_need 17,500. Each ran in a thread whose stack of 1 MiB was painted with a
- * pattern before, and what had lost its paint afterwards was counted, less what an idle thread uses; on all files of the benchmark
- * and 1,500 generated ones, for all rights, access_need on 420 generated ones with lists of 0, 1 and 8 cells. The files made no
+ * 8,300, access_replay 7,200, access_judge 24,000, access_need 17,500. Each ran in a thread whose stack of 1 MiB was painted with
+ * a pattern before, and what had lost its paint afterwards was counted, less what an idle thread uses; on all files of the
+ * benchmark and 1,500 generated ones, for all rights, access_need on 420 generated ones with lists of 0, 1 and 8 cells, access_run
+ * and access_replay, as they are now, on 60. The files made no
  * difference: the calls hold arrays of fixed size alone, and recur at most once for each blank of a rule. The tests measure it
  * again, and fail above this number.
  */

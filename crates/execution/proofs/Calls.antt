@@ -19,15 +19,16 @@ use Rattle.commands.proofs.Reading.{fits-wider}
 use Rattle.policy.specs.Contents.{systemOf}
 use Rattle.policy.specs.Fits.{PolicyFits}
 use Rattle.policy.specs.declared.Policy.{Policy}
-use Rattle.execution.specs.Runs.{refusedExecuted, outcomeOf, ExecutedAs}
+use Rattle.execution.specs.Runs.{executedOf, outcomeOf, ExecutedAs}
+use Rattle.execution.specs.declared.Answer.the-variants.{Refused}
 use Rattle.execution.specs.declared.Executed.{Executed}
 use Rattle.execution.proofs.Running.{executed-refused}
 
 module _ (p : Policy) (m : Matrix) (i : ℕ) (a : List ℕ) (right : ℕ) where
-  pub refused-11 : (x : Executed) → Canonical rights (m .kinds) (m .cells) → p .commands ≤ i → x ≡ refusedExecuted 11 m → ExecutedAs right (outcomeOf p m i a) m x
-  refused-11 x K h e =
-      executed-refused right 11 m (outcomeOf p m i a) x K
-      (ap (λ (w : Option ModelCommand). executeCommand bounded (stateOf m) w (valuesOf a)) (none-tabulate (λ j. meaning (getD (p .command) j missing)) (p .commands) 0 i h)) e
+  pub refused-11 : Canonical rights (m .kinds) (m .cells) → p .commands ≤ i → ExecutedAs right (outcomeOf p m i a) m (executedOf (Refused 11) m)
+  refused-11 K h =
+      executed-refused right 11 m m (outcomeOf p m i a) K
+      (ap (λ (w : Option ModelCommand). executeCommand bounded (stateOf m) w (valuesOf a)) (none-tabulate (λ j. meaning (getD (p .command) j missing)) (p .commands) 0 i h)) refl
 
   pub call-fits : (c : Command) → PolicyFits p → i < p .commands → c ≡ getD (p .command) i missing → Fits rights c
   call-fits c F l e = subst (Fits rights) (sym e) (fits-wider (p .rights) rights (getD (p .command) i missing) (F .few-rights) (F .commands-fit i l))

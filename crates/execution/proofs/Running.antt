@@ -28,9 +28,9 @@ use Rattle.commands.specs.declared.Operation.{Operation}
 use Rattle.commands.specs.declared.Operation.the-variants.{Enter, Delete, CreateSubject, CreateObject, DestroySubject, DestroyObject}
 use Rattle.operations.specs.Operations.{HasName, Applies, performed}
 use Rattle.execution.specs.Conditions.{ConditionApplies, ConditionsApply}
-use Rattle.execution.specs.Runs.{OperationsApply, RanAs, answerOf, refusedExecuted, ExecutedAs}
+use Rattle.execution.specs.Runs.{OperationsApply, RanAs, answerOf, executedOf, ExecutedAs}
+use Rattle.execution.specs.declared.Answer.{Answer}
 use Rattle.execution.specs.declared.Answer.the-variants.{Refused, Done, Leaked}
-use Rattle.execution.specs.declared.Executed.{Executed}
 use Rattle.execution.specs.declared.Ran.{Ran}
 use Rattle.protection.proofs.Spare.{named-used, fits-name}
 use Rattle.protection.proofs.Calls.{OperationBelow}
@@ -56,9 +56,10 @@ pub record Going (right : ℕ) (m : Matrix) (a : List ℕ) (c : Command) (j : �
   pub leak : leaked || entersAnyNew (stateOf x) (valuesOf a) (operationsFrom c (c .operations - j) j) right ≡ entersAnyNew (stateOf m) (valuesOf a) (operationsFrom c (c .operations) 0) right
   pub state : effectAll (stateOf x) (valuesOf a) (operationsFrom c (c .operations - j) j) ≡ effectAll (stateOf m) (valuesOf a) (operationsFrom c (c .operations) 0)
   pub canonical : Canonical rights (x .kinds) (x .cells)
+  pub first : j ≡ 0 → x ≡ m
 
 pub going-start : (right : ℕ) (m : Matrix) (a : List ℕ) (c : Command) → Canonical rights (m .kinds) (m .cells) → Going right m a c 0 m false
-going-start right m a c K = record { able = rw sub-zero; leak = rw sub-zero; state = rw sub-zero; canonical = K }
+going-start right m a c K = record { able = rw sub-zero; leak = rw sub-zero; state = rw sub-zero; canonical = K; first = λ _. refl }
 
 module _ (right : ℕ) (m : Matrix) (a : List ℕ) (c : Command) (j : ℕ) (x : Matrix) (leaked : Bool) (G : Going right m a c j x leaked)
     (l : j < c .operations) (op : Operation) (e : stepOf op ≡ operationAt c j) (r : Bool) (d : r ≡ canDo (view (x .kinds) []) (valuesOf a) (modelOf op)) where
@@ -68,11 +69,11 @@ module _ (right : ℕ) (m : Matrix) (a : List ℕ) (c : Command) (j : ℕ) (x : 
   can-here : r ≡ canDo (stateOf x) (valuesOf a) (modelOf op)
   can-here = d ∙ can-by-kinds (x .kinds) [] (x .cells) (valuesOf a) op
 
-  pub going-stop : Canonical rights (m .kinds) (m .cells) → not r ≡ true → RanAs right m a (operationsFrom c (c .operations) 0) (record { done = false; leaked = leaked; matrix = m })
-  going-stop K t =
+  pub going-stop : not r ≡ true → RanAs right m a c x (record { done = false; leaked = leaked }) (c .operations ≡ 1)
+  going-stop t =
       let z : canDo (stateOf x) (valuesOf a) (modelOf op) ≡ false = sym can-here ∙ not-true r t in
       let w : canDoAll (stateOf x) (valuesOf a) (operationsFrom c (c .operations - j) j) ≡ false = ap (canDoAll (stateOf x) (valuesOf a)) unrolled ∙ rw z in
-      record { able = sym w ∙ G .able; leak = λ q. absurd (never q); state = λ q. absurd (never q); canonical = K }
+      record { able = sym w ∙ G .able; leak = λ q. absurd (never q); state = λ q. absurd (never q); canonical = G .canonical; none = λ _ one. G .first (omega arith) }
     where
       never : _≡_ {A = Bool} false true → ⊥
       never q = let z : _≡_ {A = ℕ} 0 1 = cc in omega arith
@@ -95,6 +96,7 @@ module _ (right : ℕ) (m : Matrix) (a : List ℕ) (c : Command) (j : ℕ) (x : 
             ∙ ap (λ (ops : List ModelOperation). leaked || entersAnyNew (stateOf x) (valuesOf a) ops right) (sym unrolled) ∙ G .leak;
         state = ap (λ (s : State). effectAll s (valuesOf a) rest) st ∙ ap (effectAll (stateOf x) (valuesOf a)) (sym unrolled) ∙ G .state;
         canonical = subst (λ (w : Matrix). Canonical rights (w .kinds) (w .cells)) (sym dy) (performed-canonical rights x (G .canonical) a op ap-op gr can);
+        first = λ q. absurd (omega arith);
       }
     where
       rest : List ModelOperation
@@ -105,7 +107,7 @@ module _ (right : ℕ) (m : Matrix) (a : List ℕ) (c : Command) (j : ℕ) (x : 
       or-assoc false v w = refl
 
 pub going-end : (right : ℕ) (m : Matrix) (a : List ℕ) (c : Command) (j : ℕ) (x : Matrix) (leaked : Bool) → Going right m a c j x leaked → c .operations ≤ j
-    → RanAs right m a (operationsFrom c (c .operations) 0) (record { done = true; leaked = leaked; matrix = x })
+    → RanAs right m a c x (record { done = true; leaked = leaked }) (c .operations ≡ 1)
 going-end right m a c j x leaked G h =
     let z : c .operations - j ≡ 0 = omega arith in
     record {
@@ -113,7 +115,25 @@ going-end right m a c j x leaked G h =
       leak = λ _. sym (or-false leaked) ∙ (rw z at (G .leak));
       state = λ _. rw z at (G .state);
       canonical = G .canonical;
+      none = λ q. absurd (let y : _≡_ {A = ℕ} 0 1 = cc in omega arith);
     }
+
+-- ---- all or none
+module _ (right : ℕ) (m : Matrix) (a : List ℕ) (c : Command) (y : Matrix) (x : Ran) (h : RanAs right m a c y x (c .operations ≡ 1)) where
+  pub all-one : c .operations ≡ 1 → RanAs right m a c y x (Unit {0})
+  all-one one = record { able = h .able; leak = h .leak; state = h .state; canonical = h .canonical; none = λ q _. h .none q one }
+
+  pub all-back : Canonical rights (m .kinds) (m .cells) → not (x .done) ≡ true → RanAs right m a c m x (Unit {0})
+  all-back K t = record { able = h .able; leak = h .leak; state = λ q. absurd (both (x .done) t q); canonical = K; none = λ _ _. refl }
+    where
+      both : (b : Bool) → not b ≡ true → b ≡ true → ⊥
+      both b u v = let z : _≡_ {A = ℕ} 0 1 = cc (not-true b u) in omega arith
+
+  pub all-done : not (x .done) ≡ false → RanAs right m a c y x (Unit {0})
+  all-done t = record { able = h .able; leak = h .leak; state = h .state; canonical = h .canonical; none = λ q _. absurd (both (x .done) t q) }
+    where
+      both : (b : Bool) → not b ≡ false → b ≡ false → ⊥
+      both b u v = let z : _≡_ {A = ℕ} 0 1 = cc (not-false b u) in omega arith
 
 -- ---- what a call that passed the test of its actuals may rest on
 module _ (a : List ℕ) (c : Command) (F : Fits rights c) (r : Bool) (d : r ≡ all (actualFits bounded (meaning c) (valuesOf a)) parameters 0) (t : not r ≡ false) where
@@ -150,10 +170,10 @@ module _ (a : List ℕ) (c : Command) (F : Fits rights c) (r : Bool) (d : r ≡ 
       by (DestroyObject o) l n = n o l (eqb-refl o)
 
 -- ---- what a call answers
-pub executed-refused : (right n : ℕ) (m : Matrix) (o : Outcome) (x : Executed) → Canonical rights (m .kinds) (m .cells) → o ≡ refused n → x ≡ refusedExecuted n m → ExecutedAs right o m x
-executed-refused right n m o x K e d =
-    subst (λ (y : Executed). ExecutedAs right o m y) (sym d)
-    (subst (λ (z : Outcome). ExecutedAs right z m (refusedExecuted n m)) (sym e) (record { answer = refl; state = refl; canonical = K }))
+pub executed-refused : (right n : ℕ) (m y : Matrix) (o : Outcome) → Canonical rights (m .kinds) (m .cells) → o ≡ refused n → y ≡ m → ExecutedAs right o m (executedOf (Refused n) y)
+executed-refused right n m y o K e d =
+    subst (λ (w : Matrix). ExecutedAs right o m (executedOf (Refused n) w)) (sym d)
+    (subst (λ (z : Outcome). ExecutedAs right z m (executedOf (Refused n) m)) (sym e) (record { answer = refl; state = refl; canonical = K }))
 
 module _ (right : ℕ) (m : Matrix) (c : Command) (a : List ℕ) (K : Canonical rights (m .kinds) (m .cells)) where
   abbrev outcome : Outcome
@@ -163,22 +183,24 @@ module _ (right : ℕ) (m : Matrix) (c : Command) (a : List ℕ) (K : Canonical 
   end = done (effectAll (stateOf m) (valuesOf a) (operationsFrom c (c .operations) 0)) (entersAnyNew (stateOf m) (valuesOf a) (operationsFrom c (c .operations) 0))
 
   module _ (r₁ : Bool) (d₁ : r₁ ≡ all (actualFits bounded (meaning c) (valuesOf a)) parameters 0) where
-    pub refused-12 : (x : Executed) → not r₁ ≡ true → x ≡ refusedExecuted 12 m → ExecutedAs right outcome m x
-    refused-12 x t e = executed-refused right 12 m outcome x K (let z = sym d₁ ∙ not-true r₁ t in rw z) e
+    pub refused-12 : not r₁ ≡ true → ExecutedAs right outcome m (executedOf (Refused 12) m)
+    refused-12 t = executed-refused right 12 m m outcome K (let z = sym d₁ ∙ not-true r₁ t in rw z) refl
 
     module _ (t₁ : not r₁ ≡ false) (r₃ : Bool) (d₃ : r₃ ≡ holdAll (view (m .kinds) (m .cells)) (valuesOf a) (tabulate (conditionOf c) (c .conditions) 0)) where
       passed-12 : all (actualFits bounded (meaning c) (valuesOf a)) parameters 0 ≡ true
       passed-12 = sym d₁ ∙ not-false r₁ t₁
 
-      pub refused-14 : (x : Executed) → not r₃ ≡ true → x ≡ refusedExecuted 14 m → ExecutedAs right outcome m x
-      refused-14 x t e = executed-refused right 14 m outcome x K (let z = sym d₃ ∙ not-true r₃ t in rw (passed-12, z)) e
+      pub refused-14 : not r₃ ≡ true → ExecutedAs right outcome m (executedOf (Refused 14) m)
+      refused-14 t = executed-refused right 14 m m outcome K (let z = sym d₃ ∙ not-true r₃ t in rw (passed-12, z)) refl
 
-      module _ (t₃ : not r₃ ≡ false) (w : Ran) (d₄ : RanAs right m a (operationsFrom c (c .operations) 0) w) where
+      module _ (t₃ : not r₃ ≡ false) (y : Matrix) (w : Ran) (d₄ : RanAs right m a c y w (Unit {0})) where
         passed-14 : holdAll (view (m .kinds) (m .cells)) (valuesOf a) (tabulate (conditionOf c) (c .conditions) 0) ≡ true
         passed-14 = sym d₃ ∙ not-false r₃ t₃
 
-        pub refused-15 : (x : Executed) → not (w .done) ≡ true → x ≡ refusedExecuted 15 m → ExecutedAs right outcome m x
-        refused-15 x t e = executed-refused right 15 m outcome x K (let z = sym (d₄ .able) ∙ not-true (w .done) t in rw (passed-12, passed-14, z)) e
+        pub refused-15 : not (w .done) ≡ true → ExecutedAs right outcome m (executedOf (Refused 15) y)
+        refused-15 t =
+            let e : w .done ≡ false = not-true (w .done) t in
+            executed-refused right 15 m y outcome K (let z = sym (d₄ .able) ∙ e in rw (passed-12, passed-14, z)) (d₄ .none e tt)
 
         module _ (t₄ : not (w .done) ≡ false) where
           is-done : w .done ≡ true
@@ -187,18 +209,17 @@ module _ (right : ℕ) (m : Matrix) (c : Command) (a : List ℕ) (K : Canonical 
           ended : outcome ≡ end
           ended = let z = sym (d₄ .able) ∙ is-done in rw (passed-12, passed-14, z)
 
-          finished : (x : Executed) → x .matrix ≡ w .matrix → x .answer ≡ pick (w .leaked) Leaked Done → ExecutedAs right outcome m x
-          finished x em ea =
-              let u : x .answer ≡ answerOf right end = ea ∙ ap (λ (b : Bool). pick b Leaked Done) (d₄ .leak is-done) in
-              let s : stateOf (x .matrix) ≡ after end (stateOf m) = ap stateOf em ∙ d₄ .state is-done in
+          finished : (r : Answer) → r ≡ pick (w .leaked) Leaked Done → ExecutedAs right outcome m (executedOf r y)
+          finished r ea =
+              let u : r ≡ answerOf right end = ea ∙ ap (λ (b : Bool). pick b Leaked Done) (d₄ .leak is-done) in
               record {
                 answer = u ∙ ap (answerOf right) (sym ended);
-                state = s ∙ ap (λ (o : Outcome). after o (stateOf m)) (sym ended);
-                canonical = subst (λ (y : Matrix). Canonical rights (y .kinds) (y .cells)) (sym em) (d₄ .canonical);
+                state = d₄ .state is-done ∙ ap (λ (o : Outcome). after o (stateOf m)) (sym ended);
+                canonical = d₄ .canonical;
               }
 
-          pub done-leaked : w .leaked ≡ true → ExecutedAs right outcome m (record { answer = Leaked; matrix = w .matrix })
-          done-leaked z = finished (record { answer = Leaked; matrix = w .matrix }) refl (rw z)
+          pub done-leaked : w .leaked ≡ true → ExecutedAs right outcome m (executedOf Leaked y)
+          done-leaked z = finished Leaked (rw z)
 
-          pub done-quiet : w .leaked ≡ false → ExecutedAs right outcome m (record { answer = Done; matrix = w .matrix })
-          done-quiet z = finished (record { answer = Done; matrix = w .matrix }) refl (rw z)
+          pub done-quiet : w .leaked ≡ false → ExecutedAs right outcome m (executedOf Done y)
+          done-quiet z = finished Done (rw z)

@@ -6,13 +6,13 @@ use mathlib.Core.List.{List}
 use lib.ListN.{getElem?}
 use Rattle.cases.specs.Cases.{pick}
 use Rattle.protection.specs.Limits.{rights}
-use Rattle.protection.specs.Command.{Operation, valuesOf}
+use Rattle.protection.specs.Command.{valuesOf}
 use Rattle.protection.specs.Execution.{canDoAll, effectAll, entersAnyNew, Outcome, refused, done, bounded, executeCommand}
 use Rattle.protection.specs.Leak.{after}
 use Rattle.matrix.specs.Canonical.{Canonical}
 use Rattle.matrix.specs.Matrices.{stateOf}
 use Rattle.matrix.specs.declared.Matrix.{Matrix}
-use Rattle.commands.specs.Contents.{operationAt, stepOf}
+use Rattle.commands.specs.Contents.{operationAt, stepOf, operationsFrom}
 use Rattle.commands.specs.Fits.{Fits}
 use Rattle.commands.specs.declared.Command.{Command}
 use Rattle.commands.specs.declared.Operation.{Operation as CodeOperation}
@@ -29,20 +29,21 @@ pub record OperationsApply (a : List ℕ) (c : Command) : Type 0 where
   pub fits : Fits rights c
   pub all : (j : ℕ) (o : CodeOperation) → j < c .operations → stepOf o ≡ operationAt c j → Applies a o
 
--- all operations were done, and this is what they left; or one could not be done
-pub record RanAs (right : ℕ) (m : Matrix) (a : List ℕ) (ops : List Operation) (x : Ran) : Type 0 where
-  pub able : x .done ≡ canDoAll (stateOf m) (valuesOf a) ops
-  pub leak : x .done ≡ true → x .leaked ≡ entersAnyNew (stateOf m) (valuesOf a) ops right
-  pub state : x .done ≡ true → stateOf (x .matrix) ≡ effectAll (stateOf m) (valuesOf a) ops
-  pub canonical : Canonical rights (x .matrix .kinds) (x .matrix .cells)
+-- all operations of the command were done, and y is what they left; or one could not be done, and where `Back` holds y is the matrix as it was
+pub record RanAs (right : ℕ) (m : Matrix) (a : List ℕ) (c : Command) (y : Matrix) (x : Ran) (Back : Type 0) : Type 0 where
+  pub able : x .done ≡ canDoAll (stateOf m) (valuesOf a) (operationsFrom c (c .operations) 0)
+  pub leak : x .done ≡ true → x .leaked ≡ entersAnyNew (stateOf m) (valuesOf a) (operationsFrom c (c .operations) 0) right
+  pub state : x .done ≡ true → stateOf y ≡ effectAll (stateOf m) (valuesOf a) (operationsFrom c (c .operations) 0)
+  pub canonical : Canonical rights (y .kinds) (y .cells)
+  pub none : x .done ≡ false → Back → y ≡ m
 
 -- the enum `Answer`: document 01's refusal, or done, with or without a leak of the right
 abbrev pub answerOf : ℕ → Outcome → Answer
 answerOf right (refused n) = Refused n
 answerOf right (done m new) = pick (new right) Leaked Done
 
-abbrev pub refusedExecuted : ℕ → Matrix → Executed
-refusedExecuted n m = record { answer = Refused n; matrix = m }
+abbrev pub executedOf : Answer → Matrix → Executed
+executedOf r m = record { answer = r; matrix = m }
 
 -- a call on a matrix: a command's number and the four actuals
 abbrev pub outcomeOf : Policy → Matrix → ℕ → List ℕ → Outcome

@@ -1,15 +1,16 @@
-// Running a command (document 01: a rule) on a matrix by value and on the lent file; refusals 11 to 15.
+// Running a command (document 01: a rule) on lent kinds and cells, and on a matrix by value; refusals 11 to 15.
 ghost use mathlib.Core.Path.{_≡_};
 ghost use mathlib.Core.Option.{some};
 ghost use Rattle.protection.specs.Limits.{rights};
 ghost use Rattle.protection.specs.Command.{valuesOf};
 ghost use Rattle.protection.specs.Execution.{bounded, executeCommand};
 ghost use Rattle.matrix.specs.Canonical.{Canonical};
-ghost use Rattle.matrix.specs.Matrices.{stateOf};
-ghost use Rattle.commands.specs.Contents.{operationsFrom, meaning};
+ghost use Rattle.matrix.specs.Bytes.{view};
+ghost use Rattle.matrix.specs.Matrices.{matrixOf};
+ghost use Rattle.commands.specs.Contents.{meaning};
 ghost use Rattle.commands.specs.Fits.{Fits};
 ghost use Rattle.policy.specs.Fits.{PolicyFits};
-ghost use Rattle.execution.specs.Runs.{OperationsApply, RanAs, refusedExecuted, ExecutedAs, outcomeOf};
+ghost use Rattle.execution.specs.Runs.{OperationsApply, RanAs, executedOf, ExecutedAs, outcomeOf};
 
 mod conditions;
 
@@ -29,79 +30,116 @@ pub struct Executed {
     pub matrix: Matrix,
 }
 
+// All operations were done; one of them entered the right into a cell that lacked it.
 struct Ran {
     done: bool,
     leaked: bool,
-    matrix: Matrix,
 }
 
-// The operations in order, each on what the one before left.
-fn run_operations(m: Matrix, c: Command, a: [u8; Command::PARAMETERS], right: u8) -> Ran
-    requires { ⌜ Canonical rights (m .kinds) (m .cells) × OperationsApply a c ⌝ }
-    ensures { λ r. ⌜ RanAs right m a (operationsFrom c (c .operations) 0) r ⌝ }
+// The operations in order, each on what the one before left; those before one that cannot be done stay done.
+fn run_operations(
+    kinds: &mut [u8; Matrix::NAMES],
+    cells: &mut [u8; Matrix::NAMES * Matrix::NAMES],
+    c: Command,
+    a: [u8; Command::PARAMETERS],
+    right: u8,
+) -> Ran
+    requires { ⌜ Canonical rights (now kinds) (now cells) × OperationsApply a c ⌝ }
+    ensures { λ r. ⌜ RanAs right (matrixOf (now (kinds .entry)) (now (cells .entry))) a c (matrixOf (now (kinds .exit)) (now (cells .exit))) r (c .operations ≡ 1) ⌝ }
 {
     let n = c.operations as usize;
-    let mut matrix = m;
     let mut leaked = false;
     for j in 0..n {
         let operation = c.operation_at(j);
-        if !operations::can_do(&matrix.kinds, operation, a) {
+        if !operations::can_do(kinds, operation, a) {
             return Ran {
                 done: false,
                 leaked,
-                matrix: m,
             };
         }
-        leaked = leaked | operations::enters_new(&matrix.kinds, &matrix.cells, operation, a, right);
-        matrix = operations::perform(matrix, operation, a);
+        leaked = leaked | operations::enters_new(kinds, cells, operation, a, right);
+        operations::perform(kinds, cells, operation, a);
     }
-    Ran {
-        done: true,
-        leaked,
-        matrix,
-    }
+    Ran { done: true, leaked }
 }
 
-fn refused_with(n: u8, m: Matrix) -> Executed
-    ensures { λ r. ⌜ r ≡ refusedExecuted n m ⌝ }
+// All operations, or none. A single one that cannot be done has changed nothing, so that no copy is kept for it.
+fn run_all(
+    kinds: &mut [u8; Matrix::NAMES],
+    cells: &mut [u8; Matrix::NAMES * Matrix::NAMES],
+    c: Command,
+    a: [u8; Command::PARAMETERS],
+    right: u8,
+) -> Ran
+    requires { ⌜ Canonical rights (now kinds) (now cells) × OperationsApply a c ⌝ }
+    ensures { λ r. ⌜ RanAs right (matrixOf (now (kinds .entry)) (now (cells .entry))) a c (matrixOf (now (kinds .exit)) (now (cells .exit))) r (Unit {0}) ⌝ }
 {
-    Executed {
-        answer: Answer::Refused(n),
-        matrix: m,
+    if c.operations == 1 {
+        return run_operations(kinds, cells, c, a, right);
     }
+    let kept_kinds = *kinds;
+    let kept_cells = *cells;
+    let ran = run_operations(kinds, cells, c, a, right);
+    let done = ran.done;
+    if !done {
+        *kinds = kept_kinds;
+        *cells = kept_cells;
+        return ran;
+    }
+    ran
 }
 
 // A command with actual parameters: all conditions are tested before the first operation; all operations are done, or none.
-fn run_command(m: Matrix, c: Command, a: [u8; Command::PARAMETERS], right: u8) -> Executed
-    requires { ⌜ Canonical rights (m .kinds) (m .cells) × Fits rights c ⌝ }
-    ensures { λ r. ⌜ ExecutedAs right (executeCommand bounded (stateOf m) (some (meaning c)) (valuesOf a)) m r ⌝ }
+fn run_command(
+    kinds: &mut [u8; Matrix::NAMES],
+    cells: &mut [u8; Matrix::NAMES * Matrix::NAMES],
+    c: Command,
+    a: [u8; Command::PARAMETERS],
+    right: u8,
+) -> Answer
+    requires { ⌜ Canonical rights (now kinds) (now cells) × Fits rights c ⌝ }
+    ensures { λ r. ⌜ ExecutedAs right (executeCommand bounded (view (now (kinds .entry)) (now (cells .entry))) (some (meaning c)) (valuesOf a)) (matrixOf (now (kinds .entry)) (now (cells .entry))) (executedOf r (matrixOf (now (kinds .exit)) (now (cells .exit)))) ⌝ }
 {
     if !conditions::actuals_fit(c, a) {
-        return refused_with(12, m);
+        return Answer::Refused(12);
     }
-    if !conditions::conditions_hold(&m.kinds, &m.cells, c, a) {
-        return refused_with(14, m);
+    if !conditions::conditions_hold(kinds, cells, c, a) {
+        return Answer::Refused(14);
     }
-    let ran = run_operations(m, c, a, right);
+    let ran = run_all(kinds, cells, c, a, right);
     let done = ran.done;
     if !done {
-        return refused_with(15, m);
+        return Answer::Refused(15);
     }
     let leaked = ran.leaked;
-    let matrix = ran.matrix;
     if leaked {
-        return Executed {
-            answer: Answer::Leaked,
-            matrix,
-        };
+        return Answer::Leaked;
     }
-    Executed {
-        answer: Answer::Done,
-        matrix,
-    }
+    Answer::Done
 }
 
-// One call of a command on a matrix.
+// One call of a command, on the lent kinds and cells.
+pub fn call(
+    p: Policy,
+    kinds: &mut [u8; Matrix::NAMES],
+    cells: &mut [u8; Matrix::NAMES * Matrix::NAMES],
+    command: u8,
+    a: [u8; Command::PARAMETERS],
+    right: u8,
+) -> Answer
+    requires { ⌜ PolicyFits p × Canonical rights (now kinds) (now cells) ⌝ }
+    ensures { λ r. ⌜ ExecutedAs right (outcomeOf p (matrixOf (now (kinds .entry)) (now (cells .entry))) command a) (matrixOf (now (kinds .entry)) (now (cells .entry))) (executedOf r (matrixOf (now (kinds .exit)) (now (cells .exit)))) ⌝ }
+{
+    if p.commands <= command {
+        return Answer::Refused(11);
+    }
+    let all = p.command;
+    let i = command as usize;
+    let c = all[i];
+    run_command(kinds, cells, c, a, right)
+}
+
+// The same on a matrix by value.
 pub fn execute(
     p: Policy,
     m: Matrix,
@@ -112,8 +150,11 @@ pub fn execute(
     requires { ⌜ PolicyFits p × Canonical rights (m .kinds) (m .cells) ⌝ }
     ensures { λ r. ⌜ ExecutedAs right (outcomeOf p m command a) m r ⌝ }
 {
-    if p.commands <= command {
-        return refused_with(11, m);
+    let mut kinds = m.kinds;
+    let mut cells = m.cells;
+    let answer = call(p, &mut kinds, &mut cells, command, a, right);
+    Executed {
+        answer,
+        matrix: Matrix { kinds, cells },
     }
-    run_command(m, p.command_at(command as usize), a, right)
 }

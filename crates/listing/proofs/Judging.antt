@@ -31,7 +31,10 @@ count-of true n = refl
 count-of false n = refl
 
 -- a verdict's answer needs its steps only, and a refusal nothing
-module _ (f : List ℕ) (r : ℕ) (b : List ℕ) (j : Judgement) (b' : List ℕ) (J : Judged f r b j b') (e : length b ≡ bufferBytes) where
+module _ (f : List ℕ) (r : ℕ) (b : List ℕ) (j : Judgement) (b' : List ℕ) (x : PolicyRead) (d : x ≡ policyRead f) (told : (g : List ℕ) → x ≡ policyRead g → Judged g r b j b') (e : length b ≡ bufferBytes) where
+  J : Judged f r b j b'
+  J = told f d
+
   given : j ≡ fileJudgement f r bufferBytes
   given = J .answer-is ∙ ap (fileJudgement f r) e
 
@@ -69,20 +72,19 @@ module _ (f : List ℕ) (r : ℕ) (b : List ℕ) (j : Judgement) (b' : List ℕ)
       go (no n) = let k = none-written n in record { few = omega arith; steps = omega arith; lines = l }
 
   -- what is printed is the listing
-  module _ (x : PolicyRead) (d : x ≡ policyRead f) where
-    prints : printed (x .policy) j (calls b' (stepsWritten j)) ≡ listing (r ∷ f)
-    prints = go (ℕ-discrete (judgeRefusal f r bufferBytes) 0)
-      where
-        go : Dec (judgeRefusal f r bufferBytes ≡ 0) → printed (x .policy) j (calls b' (stepsWritten j)) ≡ listing (r ∷ f)
-        go (yes z) =
-            let p : x .policy ≡ policyOf f = read-policy f x d (read-refusal f x d ∙ none-refused f r bufferBytes z .0) in
-            ap₂ (λ (q : Policy) (l : List Call). printed q j l) p (steps-are z) ∙ ap (λ (i : Judgement). printed (policyOf f) i (fileVerdict f r .steps)) given
-        go (no n) =
-            ap (λ (i : Judgement). printed (x .policy) i (calls b' (stepsWritten j))) (given ∙ refuses f r bufferBytes n)
-            ∙ sym (ap (λ (i : Judgement). printed (policyOf f) i (fileVerdict f r .steps)) (refuses f r bufferBytes n))
+  prints : printed (x .policy) j (calls b' (stepsWritten j)) ≡ listing (r ∷ f)
+  prints = go (ℕ-discrete (judgeRefusal f r bufferBytes) 0)
+    where
+      go : Dec (judgeRefusal f r bufferBytes ≡ 0) → printed (x .policy) j (calls b' (stepsWritten j)) ≡ listing (r ∷ f)
+      go (yes z) =
+          let p : x .policy ≡ policyOf f = read-policy f x d (read-refusal f x d ∙ none-refused f r bufferBytes z .0) in
+          ap₂ (λ (q : Policy) (l : List Call). printed q j l) p (steps-are z) ∙ ap (λ (i : Judgement). printed (policyOf f) i (fileVerdict f r .steps)) given
+      go (no n) =
+          ap (λ (i : Judgement). printed (x .policy) i (calls b' (stepsWritten j))) (given ∙ refuses f r bufferBytes n)
+          ∙ sym (ap (λ (i : Judgement). printed (policyOf f) i (fileVerdict f r .steps)) (refuses f r bufferBytes n))
 
-    pub judged-put : (o o' : List ℕ) (n : ℕ) → Put o 0 (printed (x .policy) j (calls b' (stepsWritten j))) n o' → Put o 0 (listing (r ∷ f)) n o'
-    judged-put o o' n q = subst (λ (l : List ℕ). Put o 0 l n o') prints q
+  pub judged-put : (o o' : List ℕ) (n : ℕ) → Put o 0 (printed (x .policy) j (calls b' (stepsWritten j))) n o' → Put o 0 (listing (r ∷ f)) n o'
+  judged-put o o' n q = subst (λ (l : List ℕ). Put o 0 l n o') prints q
 
 -- ---- the answer to any input
 pub too-short : (input b : List ℕ) → length b < listingBytes → Answered input b 0 b

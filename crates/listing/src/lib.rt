@@ -177,8 +177,8 @@ fn answer_file(out: &mut [u8], file: &[u8], right: u8) -> usize
     ensures { λ r. ⌜ Put (now (out .entry)) 0 (listing (right ∷ now (file .entry))) r (now (out .exit)) ⌝ }
 {
     let mut steps = step_buffer();
-    let judgement = safety::judge_file(file, right, &mut steps);
     let read = policy::read_policy(file);
+    let judgement = safety::judge_read(read, right, &mut steps);
     let p = read.policy;
     print(out, judgement, p, &steps)
 }

@@ -21,15 +21,15 @@ use Rattle.protection.specs.State.{Kind, isObject, isSubject, State}
 use Rattle.protection.specs.Paper.{subject-is-object}
 use Rattle.protection.specs.Execution.{sameCell, put, takeOut, renew}
 use Rattle.matrix.specs.Bytes.{kindOf, inside, rightsIn, view}
-use Rattle.matrix.specs.Matrices.{stateOf, place, entered, deleted, emptied, renewed}
+use Rattle.matrix.specs.Matrices.{matrixOf, stateOf, place, entered, deleted, emptied, renewed}
 use Rattle.matrix.specs.declared.Matrix.{Matrix}
 use Rattle.matrix.specs.Canonical.{Canonical}
 use Rattle.matrix.proofs.Inverse.{named-below, within-inside, in-bit}
 
--- ---- for the loop of `renewed`
-pub renewed-is : (m : Matrix) (n k j : ℕ) (cs : List ℕ) → 32 ≤ j → iterate (emptied n) (32 - j) j cs ≡ iterate (emptied n) 32 0 (m .cells)
-    → _≡_ {A = Matrix} (record { kinds = set (m .kinds) n k; cells = cs }) (renewed m n k)
-renewed-is m n k j cs h e = rw (iterate-end (emptied n) 32 (iterate (emptied n) 32 0 (m .cells)) j cs h e)
+-- ---- for the loop of `renew`
+pub renewed-is : (ks cs₀ : List ℕ) (n k j : ℕ) (cs : List ℕ) → 32 ≤ j → iterate (emptied n) (32 - j) j cs ≡ iterate (emptied n) 32 0 cs₀
+    → matrixOf (set ks n k) cs ≡ renewed (matrixOf ks cs₀) n k
+renewed-is ks cs₀ n k j cs h e = rw (iterate-end (emptied n) 32 (iterate (emptied n) 32 0 cs₀) j cs h e)
 
 -- ---- one place of the cells
 same-place : (s o s' o' : ℕ) → o < names → o' < names → place s o ≡ place s' o' → (s ≡ s') × (o ≡ o')

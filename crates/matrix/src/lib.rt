@@ -4,7 +4,7 @@ ghost use Prim.Native.Nat.{_<_};
 ghost use Rattle.protection.specs.Limits.{names, rights};
 ghost use Rattle.protection.specs.State.{isObject, isSubject};
 ghost use Rattle.matrix.specs.Bytes.{kindOf, inside};
-ghost use Rattle.matrix.specs.Matrices.{emptyMatrix, entered, deleted, renewed};
+ghost use Rattle.matrix.specs.Matrices.{matrixOf, emptyMatrix, withRight, withoutRight, deleted, renewed};
 
 pub mod cells;
 
@@ -34,17 +34,7 @@ impl Matrix {
         }
     }
 
-    // Right q is put into the cell (s, o).
-    pub fn with_right(mut self, q: u8, s: usize, o: usize) -> Self
-        requires { ⌜ (q < rights) × (s < names) × (o < names) ⌝ }
-        ensures { λ r. ⌜ r ≡ entered self q s o ⌝ }
-    {
-        let at = Matrix::NAMES * s + o;
-        self.cells[at] = rights::with_right(self.cells[at], q);
-        self
-    }
-
-    // Right q is taken out of the cell (s, o).
+    // The matrix without right q in the cell (s, o); `delete` does it in place.
     pub fn without_right(mut self, q: u8, s: usize, o: usize) -> Self
         requires { ⌜ (q < rights) × (s < names) × (o < names) ⌝ }
         ensures { λ r. ⌜ r ≡ deleted self q s o ⌝ }
@@ -53,21 +43,41 @@ impl Matrix {
         self.cells[at] = rights::without_right(self.cells[at], q);
         self
     }
+}
 
-    // Name n gets a kind, and an empty row and column.
-    pub fn renewed(self, n: usize, kind: u8) -> Self
-        requires { ⌜ n < names ⌝ }
-        ensures { λ r. ⌜ r ≡ renewed self n kind ⌝ }
-    {
-        let mut kinds = self.kinds;
-        let mut cells = self.cells;
-        for j in 0..Matrix::NAMES {
-            cells[Matrix::NAMES * n + j] = 0;
-            cells[Matrix::NAMES * j + n] = 0;
-        }
-        kinds[n] = kind;
-        Matrix { kinds, cells }
+// Right q is put into the cell (s, o).
+pub fn enter(cells: &mut [u8; Matrix::NAMES * Matrix::NAMES], q: u8, s: usize, o: usize)
+    requires { ⌜ (q < rights) × (s < names) × (o < names) ⌝ }
+    ensures { λ _. ⌜ now (cells .exit) ≡ withRight (now (cells .entry)) q s o ⌝ }
+{
+    let at = Matrix::NAMES * s + o;
+    cells[at] = rights::with_right(cells[at], q);
+}
+
+// Right q is taken out of the cell (s, o).
+pub fn delete(cells: &mut [u8; Matrix::NAMES * Matrix::NAMES], q: u8, s: usize, o: usize)
+    requires { ⌜ (q < rights) × (s < names) × (o < names) ⌝ }
+    ensures { λ _. ⌜ now (cells .exit) ≡ withoutRight (now (cells .entry)) q s o ⌝ }
+{
+    let at = Matrix::NAMES * s + o;
+    cells[at] = rights::without_right(cells[at], q);
+}
+
+// Name n gets a kind, and an empty row and column.
+pub fn renew(
+    kinds: &mut [u8; Matrix::NAMES],
+    cells: &mut [u8; Matrix::NAMES * Matrix::NAMES],
+    n: usize,
+    kind: u8,
+)
+    requires { ⌜ n < names ⌝ }
+    ensures { λ _. ⌜ matrixOf (now (kinds .exit)) (now (cells .exit)) ≡ renewed (matrixOf (now (kinds .entry)) (now (cells .entry))) n kind ⌝ }
+{
+    for j in 0..Matrix::NAMES {
+        cells[Matrix::NAMES * n + j] = 0;
+        cells[Matrix::NAMES * j + n] = 0;
     }
+    kinds[n] = kind;
 }
 
 // A kind's byte is a subject's.

@@ -15,7 +15,7 @@ use Rattle.protection.specs.Command.{Actuals, valuesOf}
 use Rattle.protection.specs.Execution.{canDo, effect, entersNew}
 use Rattle.matrix.specs.Bytes.{kindOf, inside, rightsIn, view}
 use Rattle.matrix.specs.Canonical.{Canonical}
-use Rattle.matrix.specs.Matrices.{stateOf, entered, deleted, renewed}
+use Rattle.matrix.specs.Matrices.{stateOf, matrixOf, withRight, withoutRight, renewed}
 use Rattle.matrix.specs.declared.Matrix.{Matrix}
 use Rattle.matrix.proofs.Operations.{entered-state, deleted-state, renewed-state, entered-canonical, deleted-canonical, renewed-canonical}
 use Rattle.matrix.proofs.Inverse.{within-inside, in-bit}
@@ -97,24 +97,25 @@ module _ (ks cs a : List ℕ) (op : Operation) (r : ℕ) where
   enters-other q s o e ne = rw (e, ne-eqb q r ne)
 
 -- ---- what doing it leaves
-module _ (m x : Matrix) (a : List ℕ) (op : Operation) where
-  pub did-enter : (q s o y z : ℕ) → op ≡ Enter q s o → y ≡ getD a s 0 → z ≡ getD a o 0 → x ≡ entered m q y z → x ≡ performed m (valuesOf a) op
-  did-enter q s o y z e ey ez d = d ∙ rw (ey, ez, e)
+module _ (ks cs a : List ℕ) (op : Operation) where
+  pub did-enter : (cs' : List ℕ) (q s o y z : ℕ) → op ≡ Enter q s o → y ≡ getD a s 0 → z ≡ getD a o 0 → cs' ≡ withRight cs q y z → matrixOf ks cs' ≡ performed (matrixOf ks cs) (valuesOf a) op
+  did-enter cs' q s o y z e ey ez d = rw (d, ey, ez, e)
 
-  pub did-delete : (q s o y z : ℕ) → op ≡ Delete q s o → y ≡ getD a s 0 → z ≡ getD a o 0 → x ≡ deleted m q y z → x ≡ performed m (valuesOf a) op
-  did-delete q s o y z e ey ez d = d ∙ rw (ey, ez, e)
+  pub did-delete : (cs' : List ℕ) (q s o y z : ℕ) → op ≡ Delete q s o → y ≡ getD a s 0 → z ≡ getD a o 0 → cs' ≡ withoutRight cs q y z → matrixOf ks cs' ≡ performed (matrixOf ks cs) (valuesOf a) op
+  did-delete cs' q s o y z e ey ez d = rw (d, ey, ez, e)
 
-  pub did-create-subject : (s y : ℕ) → op ≡ CreateSubject s → y ≡ getD a s 0 → x ≡ renewed m y 2 → x ≡ performed m (valuesOf a) op
-  did-create-subject s y e ey d = d ∙ rw (ey, e)
+  module _ (x : Matrix) where
+    pub did-create-subject : (s y : ℕ) → op ≡ CreateSubject s → y ≡ getD a s 0 → x ≡ renewed (matrixOf ks cs) y 2 → x ≡ performed (matrixOf ks cs) (valuesOf a) op
+    did-create-subject s y e ey d = d ∙ rw (ey, e)
 
-  pub did-create-object : (s y : ℕ) → op ≡ CreateObject s → y ≡ getD a s 0 → x ≡ renewed m y 1 → x ≡ performed m (valuesOf a) op
-  did-create-object s y e ey d = d ∙ rw (ey, e)
+    pub did-create-object : (s y : ℕ) → op ≡ CreateObject s → y ≡ getD a s 0 → x ≡ renewed (matrixOf ks cs) y 1 → x ≡ performed (matrixOf ks cs) (valuesOf a) op
+    did-create-object s y e ey d = d ∙ rw (ey, e)
 
-  pub did-destroy-subject : (s y : ℕ) → op ≡ DestroySubject s → y ≡ getD a s 0 → x ≡ renewed m y 0 → x ≡ performed m (valuesOf a) op
-  did-destroy-subject s y e ey d = d ∙ rw (ey, e)
+    pub did-destroy-subject : (s y : ℕ) → op ≡ DestroySubject s → y ≡ getD a s 0 → x ≡ renewed (matrixOf ks cs) y 0 → x ≡ performed (matrixOf ks cs) (valuesOf a) op
+    did-destroy-subject s y e ey d = d ∙ rw (ey, e)
 
-  pub did-destroy-object : (s y : ℕ) → op ≡ DestroyObject s → y ≡ getD a s 0 → x ≡ renewed m y 0 → x ≡ performed m (valuesOf a) op
-  did-destroy-object s y e ey d = d ∙ rw (ey, e)
+    pub did-destroy-object : (s y : ℕ) → op ≡ DestroyObject s → y ≡ getD a s 0 → x ≡ renewed (matrixOf ks cs) y 0 → x ≡ performed (matrixOf ks cs) (valuesOf a) op
+    did-destroy-object s y e ey d = d ∙ rw (ey, e)
 
 pub ruleset did = (did-enter, did-delete, did-create-subject, did-create-object, did-destroy-subject, did-destroy-object)
 

@@ -5,15 +5,14 @@ ghost use lib.ListN.{length};
 ghost use Rattle.protection.specs.Limits.{rights};
 ghost use Rattle.policy.specs.Contents.{systemOf};
 ghost use Rattle.policy.specs.Fits.{PolicyFits};
-ghost use Rattle.matrix.specs.Matrices.{stateOf};
+ghost use Rattle.matrix.specs.Matrices.{stateOf, matrixOf};
 ghost use Rattle.matrix.specs.Canonical.{Canonical};
-ghost use Rattle.execution.specs.Runs.{outcomeOf, ExecutedAs};
+ghost use Rattle.execution.specs.Runs.{outcomeOf, executedOf, ExecutedAs};
 ghost use Rattle.trace.specs.Traces.{stepAt, calls, stepsIn};
 ghost use Rattle.trace.specs.Replays.{replayFrom, fileReplay};
 ghost use Rattle.trace.specs.Ends.{endOf};
 use commands::Command;
 use execution::Answer;
-use execution::Executed;
 use matrix::Matrix;
 use policy::Policy;
 
@@ -87,13 +86,19 @@ fn end_of(answer: Answer, i: usize) -> Replay
     }
 }
 
-// A step on a matrix, for the loop below, which holds a reader and so is proved by hand.
-fn play(p: Policy, matrix: Matrix, step: Step, right: u8) -> Executed
-    requires { ⌜ PolicyFits p × Canonical rights (matrix .kinds) (matrix .cells) ⌝ }
-    ensures { λ r. ⌜ ExecutedAs right (outcomeOf p matrix (step .command) (step .actuals)) matrix r ⌝ }
+// A step on the lent kinds and cells, for the loop below, which holds a reader and so is proved by hand.
+fn play(
+    p: Policy,
+    kinds: &mut [u8; Matrix::NAMES],
+    cells: &mut [u8; Matrix::NAMES * Matrix::NAMES],
+    step: Step,
+    right: u8,
+) -> Answer
+    requires { ⌜ PolicyFits p × Canonical rights (now kinds) (now cells) ⌝ }
+    ensures { λ r. ⌜ ExecutedAs right (outcomeOf p (matrixOf (now (kinds .entry)) (now (cells .entry))) (step .command) (step .actuals)) (matrixOf (now (kinds .entry)) (now (cells .entry))) (executedOf r (matrixOf (now (kinds .exit)) (now (cells .exit)))) ⌝ }
 {
     let actuals = step.actuals;
-    execution::execute(p, matrix, step.command, actuals, right)
+    execution::call(p, kinds, cells, step.command, actuals, right)
 }
 
 // The steps in order, on a copy of the matrix.
@@ -102,17 +107,16 @@ fn replay_steps(p: Policy, trace: &[u8], right: u8) -> Replay
     ensures { λ r. ⌜ r ≡ replayFrom (systemOf p) right (calls (now (trace .entry)) (stepsIn (now (trace .entry)))) 0 (stateOf (p .matrix)) ⌝ }
 {
     let n = trace.len() / 5;
-    let mut matrix = p.matrix;
+    let matrix = p.matrix;
+    let mut kinds = matrix.kinds;
+    let mut cells = matrix.cells;
     let mut reader = TraceReader::new(trace);
     while reader.at < n {
         let step = reader.step();
-        let executed = play(p, matrix, step, right);
-        let answer = executed.answer;
+        let answer = play(p, &mut kinds, &mut cells, step, right);
         let Answer::Done = answer else {
             return end_of(answer, reader.at);
         };
-        let next = executed.matrix;
-        matrix = next;
         reader = reader.past();
     }
     Replay::NoLeak

@@ -1,5 +1,6 @@
 use Rattle.closing.proofs.ClosingCalls.{Looking, looking-start, looking-right, looking-end, looking-number, looking-tried, looking-found, looking-less, looking-more}
-use Rattle.queries.specs.Sought.{matrixOf, tablesOf}
+use Rattle.matrix.specs.Matrices.{matrixOf}
+use Rattle.queries.specs.Sought.{tablesOf}
 use Prim.Native.Nat.{_-_}
 use borrow.Author.Needs.{needs}
 use Rattle.closing.proofs.first_call.Statement.{statement}

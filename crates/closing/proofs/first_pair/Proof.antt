@@ -1,7 +1,8 @@
 use Rattle.closing.proofs.StartCells.{Cells, cells-start, cells-right, cells-asked, cells-found, cells-next, cells-lacks, cells-end}
 use mathlib.Core.Logic.{⊎-elim}
 use Prim.Native.Nat.{_-_}
-use Rattle.queries.specs.Sought.{matrixOf, tablesOf}
+use Rattle.matrix.specs.Matrices.{matrixOf}
+use Rattle.queries.specs.Sought.{tablesOf}
 use borrow.Author.Needs.{needs}
 use native.Mathlib.Omega.{arith}
 use Rattle.closing.proofs.first_pair.Statement.{statement}

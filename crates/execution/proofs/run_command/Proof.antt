@@ -6,26 +6,17 @@ use Rattle.execution.proofs.run_command.Tie as tie
 actuals-fit-requires : tie.Need-actuals-fit-requires
 actuals-fit-requires c κs = search needs
 
-refused-with-requires : tie.Need-refused-with-requires
-refused-with-requires c κs = search needs
-
 returns : tie.Need-returns
 returns c = search refused-12
 
 conditions-hold-requires : tie.Need-conditions-hold-requires
 conditions-hold-requires c κs = search conditions-apply
 
-refused-with-requires-2 : tie.Need-refused-with-requires-2
-refused-with-requires-2 c κs = search needs
-
 returns-2 : tie.Need-returns-2
 returns-2 c = search refused-14
 
-run-operations-requires : tie.Need-run-operations-requires
-run-operations-requires c κs = search operations-apply
-
-refused-with-requires-3 : tie.Need-refused-with-requires-3
-refused-with-requires-3 c κs = search needs
+run-all-requires : tie.Need-run-all-requires
+run-all-requires c κs = search operations-apply
 
 returns-3 : tie.Need-returns-3
 returns-3 c = search refused-15
@@ -41,13 +32,10 @@ run-command-spec =
     tie.close
     (tie.spec
     actuals-fit-requires
-    refused-with-requires
     returns
     conditions-hold-requires
-    refused-with-requires-2
     returns-2
-    run-operations-requires
-    refused-with-requires-3
+    run-all-requires
     returns-3
     returns-4
     returns-5)

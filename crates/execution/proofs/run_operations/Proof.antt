@@ -1,5 +1,6 @@
 use Prim.Native.Nat.{_≤_, _-_}
 use mathlib.Core.Path.{_≡_, refl}
+use Rattle.matrix.specs.Matrices.{matrixOf}
 use Rattle.execution.proofs.Running.{Going, applies-at, going-start, going-stop, going-more, going-end}
 use borrow.Author.Needs.{needs}
 use native.Mathlib.Omega.{arith}
@@ -7,10 +8,10 @@ use Rattle.execution.proofs.run_operations.Statement.{statement}
 use Rattle.execution.proofs.run_operations.Tie as tie
 
 abbrev Inv-loop : tie.InvT-loop
-Inv-loop m c a right n matrix₀ leaked₀ j₀ matrix leaked j = (j ≤ n) × (n ≡ c .operations) × Going right m a c j matrix leaked
+Inv-loop kinds₀ cells₀ c a right n leaked₀ j₀ kinds cells leaked j = (j ≤ n) × (n ≡ c .operations) × Going right (matrixOf kinds₀ cells₀) a c j (matrixOf kinds cells) leaked
 
 abbrev μ-loop : tie.MeasureT-loop
-μ-loop m c a right n matrix₀ leaked₀ j₀ matrix leaked j = n - j
+μ-loop kinds₀ cells₀ c a right n leaked₀ j₀ kinds cells leaked j = n - j
 
 cast-n : tie.Need-cast-n Inv-loop μ-loop
 cast-n c = search needs
@@ -40,7 +41,7 @@ loop-less : tie.Need-loop-less Inv-loop μ-loop
 loop-less c = omega arith
 
 loop-again : tie.Need-loop-again Inv-loop μ-loop
-loop-again c = (omega arith, omega arith, going-more _ _ _ _ _ _ _ (c .before .before .before .before .before .before .before .before .before .before .before .loop .inv .2) (omega arith) (c .before .before .before .before .before .before .before .before .before .operation-at .result) (c .before .before .before .before .before .before .before .before .before .operation-at .ensures) _ (c .before .before .before .before .before .before .can-do .ensures) (c .before .before .before .before .before .before .before .before .before .before .before .before .before .pre .1) (c .before .before .before .before .before .if1 .left) _ (c .before .enters-new .ensures) _ (c .perform .ensures))
+loop-again c = (omega arith, omega arith, going-more _ _ _ _ _ _ _ (c .before .before .before .before .before .before .before .before .before .before .before .loop .inv .2) (omega arith) (c .before .before .before .before .before .before .before .before .before .operation-at .result) (c .before .before .before .before .before .before .before .before .before .operation-at .ensures) _ (c .before .before .before .before .before .before .before .can-do .ensures) (c .before .before .before .before .before .before .before .before .before .before .before .before .before .pre .1) (c .before .before .before .before .before .before .if1 .left) _ (c .before .before .before .enters-new .ensures) _ (c .perform .ensures))
 
 returns-2 : tie.Need-returns-2 Inv-loop μ-loop
 returns-2 c = search going-end

@@ -12,8 +12,8 @@ name-of-requires c κs = search applied
 name-of-requires-2 : tie.Need-name-of-requires-2
 name-of-requires-2 c κs = search applied
 
-with-right-requires : tie.Need-with-right-requires
-with-right-requires c κs = (search applied, search needs, search needs)
+enter-requires : tie.Need-enter-requires
+enter-requires c κs = (search applied, search needs, search needs)
 
 enum-known-operation-2 : tie.Need-enum-known-operation-2
 enum-known-operation-2 c = search needs
@@ -24,8 +24,8 @@ name-of-requires-3 c κs = search applied
 name-of-requires-4 : tie.Need-name-of-requires-4
 name-of-requires-4 c κs = search applied
 
-without-right-requires : tie.Need-without-right-requires
-without-right-requires c κs = (search applied, search needs, search needs)
+delete-requires : tie.Need-delete-requires
+delete-requires c κs = (search applied, search needs, search needs)
 
 enum-known-operation-3 : tie.Need-enum-known-operation-3
 enum-known-operation-3 c = search needs
@@ -33,8 +33,8 @@ enum-known-operation-3 c = search needs
 name-of-requires-5 : tie.Need-name-of-requires-5
 name-of-requires-5 c κs = search applied
 
-renewed-requires : tie.Need-renewed-requires
-renewed-requires c κs = search needs
+renew-requires : tie.Need-renew-requires
+renew-requires c κs = search needs
 
 enum-known-operation-4 : tie.Need-enum-known-operation-4
 enum-known-operation-4 c = search needs
@@ -42,8 +42,8 @@ enum-known-operation-4 c = search needs
 name-of-requires-6 : tie.Need-name-of-requires-6
 name-of-requires-6 c κs = search applied
 
-renewed-requires-2 : tie.Need-renewed-requires-2
-renewed-requires-2 c κs = search needs
+renew-requires-2 : tie.Need-renew-requires-2
+renew-requires-2 c κs = search needs
 
 enum-known-operation-5 : tie.Need-enum-known-operation-5
 enum-known-operation-5 c = search needs
@@ -51,8 +51,8 @@ enum-known-operation-5 c = search needs
 name-of-requires-7 : tie.Need-name-of-requires-7
 name-of-requires-7 c κs = search applied
 
-renewed-requires-3 : tie.Need-renewed-requires-3
-renewed-requires-3 c κs = search needs
+renew-requires-3 : tie.Need-renew-requires-3
+renew-requires-3 c κs = search needs
 
 enum-known-operation-6 : tie.Need-enum-known-operation-6
 enum-known-operation-6 c = search needs
@@ -60,8 +60,8 @@ enum-known-operation-6 c = search needs
 name-of-requires-8 : tie.Need-name-of-requires-8
 name-of-requires-8 c κs = search applied
 
-renewed-requires-4 : tie.Need-renewed-requires-4
-renewed-requires-4 c κs = search needs
+renew-requires-4 : tie.Need-renew-requires-4
+renew-requires-4 c κs = search needs
 
 returns : tie.Need-returns
 returns c = search did
@@ -88,23 +88,23 @@ perform-spec =
     enum-known-operation
     name-of-requires
     name-of-requires-2
-    with-right-requires
+    enter-requires
     enum-known-operation-2
     name-of-requires-3
     name-of-requires-4
-    without-right-requires
+    delete-requires
     enum-known-operation-3
     name-of-requires-5
-    renewed-requires
+    renew-requires
     enum-known-operation-4
     name-of-requires-6
-    renewed-requires-2
+    renew-requires-2
     enum-known-operation-5
     name-of-requires-7
-    renewed-requires-3
+    renew-requires-3
     enum-known-operation-6
     name-of-requires-8
-    renewed-requires-4
+    renew-requires-4
     returns
     returns-2
     returns-3

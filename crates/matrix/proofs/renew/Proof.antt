@@ -1,24 +1,23 @@
 use Prim.Native.Nat.{_≤_, _-_}
 use mathlib.Core.Path.{_≡_}
 use native.Mathlib.Nat.{sub-zero}
-use lib.ListN.{length, length-set}
 use Rattle.cases.specs.Cases.{iterate}
 use Rattle.cases.proofs.Loops.{iterate-more}
 use Rattle.matrix.specs.Matrices.{emptied}
 use Rattle.matrix.proofs.Operations.{renewed-is}
 use borrow.Author.Needs.{needs}
 use native.Mathlib.Omega.{arith}
-use Rattle.matrix.proofs.Matrix.renewed.Statement.{statement}
-use Rattle.matrix.proofs.Matrix.renewed.Tie as tie
+use Rattle.matrix.proofs.renew.Statement.{statement}
+use Rattle.matrix.proofs.renew.Tie as tie
 
 abbrev Inv-loop : tie.InvT-loop
-Inv-loop n kind kinds cells₀ j₀ cells j = (j ≤ 32) × (length cells ≡ 1024) × (iterate (emptied n) (32 - j) j cells ≡ iterate (emptied n) 32 0 cells₀)
+Inv-loop kinds cells₀ n kind j₀ cells j = (j ≤ 32) × (iterate (emptied n) (32 - j) j cells ≡ iterate (emptied n) 32 0 cells₀)
 
 abbrev μ-loop : tie.MeasureT-loop
-μ-loop n kind kinds cells₀ j₀ cells j = 32 - j
+μ-loop kinds cells₀ n kind j₀ cells j = 32 - j
 
 loop-holds : tie.Need-loop-holds Inv-loop μ-loop
-loop-holds c = (omega arith, search needs, rw sub-zero)
+loop-holds c = (omega arith, rw sub-zero)
 
 mul-cells : tie.Need-mul-cells Inv-loop μ-loop
 mul-cells c = omega arith
@@ -26,8 +25,8 @@ mul-cells c = omega arith
 add-cells : tie.Need-add-cells Inv-loop μ-loop
 add-cells c = omega arith
 
-array-write-cells : tie.Need-array-write-cells Inv-loop μ-loop
-array-write-cells c = omega arith
+element-write-cells : tie.Need-element-write-cells Inv-loop μ-loop
+element-write-cells c = omega arith
 
 mul-cells-2 : tie.Need-mul-cells-2 Inv-loop μ-loop
 mul-cells-2 c = omega arith
@@ -35,8 +34,8 @@ mul-cells-2 c = omega arith
 add-cells-2 : tie.Need-add-cells-2 Inv-loop μ-loop
 add-cells-2 c = omega arith
 
-array-write-cells-2 : tie.Need-array-write-cells-2 Inv-loop μ-loop
-array-write-cells-2 c = omega arith
+element-write-cells-2 : tie.Need-element-write-cells-2 Inv-loop μ-loop
+element-write-cells-2 c = omega arith
 
 add-j : tie.Need-add-j Inv-loop μ-loop
 add-j c = omega arith
@@ -45,16 +44,16 @@ loop-less : tie.Need-loop-less Inv-loop μ-loop
 loop-less c = omega arith
 
 loop-again : tie.Need-loop-again Inv-loop μ-loop
-loop-again c = (omega arith, simp length-set (omega arith), search iterate-more)
+loop-again c = (omega arith, search iterate-more)
 
-array-write-kinds : tie.Need-array-write-kinds Inv-loop μ-loop
-array-write-kinds c = search needs
+element-write-kinds : tie.Need-element-write-kinds Inv-loop μ-loop
+element-write-kinds c = search needs
 
 returns : tie.Need-returns Inv-loop μ-loop
 returns c = search renewed-is
 
-pub renewed-spec : {M : Type 1} → statement M
-renewed-spec =
+pub renew-spec : {M : Type 1} → statement M
+renew-spec =
     tie.close
     (tie.spec
     Inv-loop
@@ -62,12 +61,12 @@ renewed-spec =
     loop-holds
     mul-cells
     add-cells
-    array-write-cells
+    element-write-cells
     mul-cells-2
     add-cells-2
-    array-write-cells-2
+    element-write-cells-2
     add-j
     loop-less
     loop-again
-    array-write-kinds
+    element-write-kinds
     returns)

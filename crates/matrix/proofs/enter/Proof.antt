@@ -1,6 +1,6 @@
 use borrow.Author.Needs.{needs}
-use Rattle.matrix.proofs.Matrix.with_right.Statement.{statement}
-use Rattle.matrix.proofs.Matrix.with_right.Tie as tie
+use Rattle.matrix.proofs.enter.Statement.{statement}
+use Rattle.matrix.proofs.enter.Tie as tie
 
 mul-at : tie.Need-mul-at
 mul-at c = search needs
@@ -14,19 +14,19 @@ element-copy-out-with-right c = search needs
 with-right-requires : tie.Need-with-right-requires
 with-right-requires c κs = search needs
 
-element-write-self : tie.Need-element-write-self
-element-write-self c = search needs
+element-write-cells : tie.Need-element-write-cells
+element-write-cells c = search needs
 
 returns : tie.Need-returns
 returns c = rw (c .with-right .ensures)
 
-pub with-right-spec : {M : Type 1} → statement M
-with-right-spec =
+pub enter-spec : {M : Type 1} → statement M
+enter-spec =
     tie.close
     (tie.spec
     mul-at
     add-at
     element-copy-out-with-right
     with-right-requires
-    element-write-self
+    element-write-cells
     returns)

@@ -1,0 +1,32 @@
+use borrow.Author.Needs.{needs}
+use Rattle.matrix.proofs.delete.Statement.{statement}
+use Rattle.matrix.proofs.delete.Tie as tie
+
+mul-at : tie.Need-mul-at
+mul-at c = search needs
+
+add-at : tie.Need-add-at
+add-at c = search needs
+
+element-copy-out-without-right : tie.Need-element-copy-out-without-right
+element-copy-out-without-right c = search needs
+
+without-right-requires : tie.Need-without-right-requires
+without-right-requires c κs = search needs
+
+element-write-cells : tie.Need-element-write-cells
+element-write-cells c = search needs
+
+returns : tie.Need-returns
+returns c = rw (c .without-right .ensures)
+
+pub delete-spec : {M : Type 1} → statement M
+delete-spec =
+    tie.close
+    (tie.spec
+    mul-at
+    add-at
+    element-copy-out-without-right
+    without-right-requires
+    element-write-cells
+    returns)
