@@ -1,9 +1,10 @@
 /*
- * A table in memory, its verdict, what a press needs, and the leak replayed and carried out. It prints:
+ * A table in memory, what a press needs, the verdict without Ada and with her, and the leak replayed and carried out. It prints:
  *
  *   accepted
  *   right 1 in (0, 2) and (1, 2): held after 2 steps
  *   right 0 in (1, 2): never
+ *   without 0: safe
  *   unsafe after 1 step: rule 0 with 0 0 2
  *   replayed: leaks at step 0
  *   run: cell (0, 2) held 1, and holds 3
@@ -45,7 +46,7 @@ int main(void)
 {
     static uint8_t file[LENGTH], steps[TUGCAPHI_BUFFER];
     static const uint8_t both[2 * TUGCAPHI_CELL] = {1, 0, 2, 1, 1, 2}, none[TUGCAPHI_CELL] = {0, 1, 2};
-    const uint8_t right = 1;
+    const uint8_t right = 1, ada = 0;
     const uint8_t *cell = file + CELLS + 32 * 0 + 2;
     uint64_t count, at;
     uint8_t answer, before;
@@ -61,6 +62,9 @@ int main(void)
         printf("right 1 in (0, 2) and (1, 2): held after %d steps\n", (int)count);
     if (access_need(file, LENGTH, none, sizeof none, steps, sizeof steps, &count) == TUGCAPHI_NEVER)
         printf("right 0 in (1, 2): never\n");
+
+    if (access_judge_part(file, LENGTH, right, &ada, 1, steps, sizeof steps, &count) == TUGCAPHI_SAFE)
+        printf("without 0: safe\n");
 
     answer = access_judge(file, LENGTH, right, steps, sizeof steps, &count);
     if (answer != TUGCAPHI_UNSAFE) {

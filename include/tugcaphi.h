@@ -1,7 +1,7 @@
 /*
  * Tugcaphi: an access matrix after Harrison, Ruzzo and Ullman, and the judge of its leaks, as a library.
  *
- * Five calls on bytes in memory. They open no file, keep nothing between calls, allocate nothing and print nothing. What each
+ * Six calls on bytes in memory. They open no file, keep nothing between calls, allocate nothing and print nothing. What each
  * answers and leaves is proved, for every input: docs/PROVED.md says what that means and what it rests on. docs/FORMAT.md has
  * the house file byte by byte, docs/REFUSALS.md every number by which a call is refused.
  *
@@ -14,17 +14,17 @@
  * What every call promises
  *
  * - It ends, whatever it is given, and reads and writes nothing but what it is lent.
- * - Any bytes are taken as a file, a trace, a list of cells or a buffer, and any number as a rule, a name or a right. What is
- *   wrong with them is the answer: a number of docs/REFUSALS.md, 1 to 9 for the file, 11, 12, 14, 15 and 31 for a rule run or
- *   a trace, 21 to 24 for a question to the judge, 41 for a list of cells. The first one that applies is given, in the order
- *   of that page.
+ * - Any bytes are taken as a file, a trace, a list of cells or of names, or a buffer, and any number as a rule, a name or a
+ *   right. What is wrong with them is the answer: a number of docs/REFUSALS.md, 1 to 9 for the file, 11, 12, 14, 15 and 31 for
+ *   a rule run or a trace, 21 to 24 for a question to the judge, 41 for a list of cells, 42 for one of names. The first one
+ *   that applies is given, in the order of that page.
  * - Refused, it changes no byte of a file or a buffer.
  *
  * What the caller must see to; no call can test it
  *
  * - A pointer is not null and points to as many bytes as its length says, for the whole call; a length of 0 is fine.
  * - What is lent for writing overlaps with nothing else that is lent: the file of access_run; the buffer and the number of
- *   access_judge and access_need; the number of access_replay. The number is aligned as a uint64_t is. What is lent for reading alone (const)
+ *   access_judge, access_judge_part and access_need; the number of access_replay. The number is aligned as a uint64_t is. What is lent for reading alone (const)
  *   may be one and the same memory.
  * - Nobody writes to what is lent while the call is at work, and nobody reads what is lent for writing. Calls of several threads
  *   at once, each with memory of its own or with memory that is only read, do not touch each other.
@@ -45,7 +45,7 @@ extern "C" {
 #define TUGCAPHI_DONE 0     /* access_run */
 #define TUGCAPHI_NO_LEAK 0  /* access_replay */
 #define TUGCAPHI_LEAK 255
-#define TUGCAPHI_SAFE 0     /* access_judge */
+#define TUGCAPHI_SAFE 0     /* access_judge, access_judge_part */
 #define TUGCAPHI_UNSAFE 255
 #define TUGCAPHI_NEVER 0    /* access_need */
 #define TUGCAPHI_HELD 255
@@ -60,17 +60,16 @@ extern "C" {
 #define TUGCAPHI_CELL 3
 #define TUGCAPHI_CELLS 8
 
-/* A buffer of so many bytes is long enough for access_judge and access_need, whatever the file: 5 * (8 * 31 * 32 + 4). */
+/* A buffer of so many bytes is long enough for every call that takes one, whatever the file: 5 * (8 * 31 * 32 + 4). */
 #define TUGCAPHI_BUFFER 39700
 
 /*
  * Bytes of stack that are enough for each call. This is measured and not proved: access_check used about 6,000 bytes, access_run
- * 8,300, access_replay 7,200, access_judge 24,000, access_need 17,500. Each ran in a thread whose stack of 1 MiB was painted with
- * a pattern before, and what had lost its paint afterwards was counted, less what an idle thread uses; on all files of the
- * benchmark and 1,500 generated ones, for all rights, access_need on 420 generated ones with lists of 0, 1 and 8 cells, access_run
- * and access_replay, as they are now, on 60. The files made no
- * difference: the calls hold arrays of fixed size alone, and recur at most once for each blank of a rule. The tests measure it
- * again, and fail above this number.
+ * 8,200, access_replay 7,200, access_judge 28,300, access_judge_part 30,400, access_need 17,200. Each ran in a thread whose stack
+ * of 1 MiB was painted with a pattern before, and what had lost its paint afterwards was counted, less what an idle thread uses;
+ * on 60 generated files from each of nine seeds, for all rights, access_judge_part with none, some and all of the names listed,
+ * access_need with lists of 0, 1 and 8 cells. The files made no difference: the calls hold arrays of fixed size alone, and recur
+ * at most once for each blank of a rule. The tests measure it again, and fail above this number.
  */
 #define TUGCAPHI_STACK 32768
 
@@ -109,6 +108,20 @@ uint8_t access_replay(const uint8_t *file, size_t length, const uint8_t *trace, 
  */
 uint8_t access_judge(const uint8_t *file, size_t length, uint8_t right, uint8_t *buffer, size_t buffer_length,
                      uint64_t *steps);
+
+/*
+ * The same of a part: of what stays when names that are trusted, such as those of an office that may grant everything anyway, are
+ * dropped with their rows and columns. The list has a byte for each name, in any order; it may be empty, and then the answer and
+ * every byte of the buffer are access_judge's.
+ *
+ * 255, unsafe: the steps, written as access_judge writes them, are a run from the part that leaks at its last step and nowhere
+ * sooner; from the whole file it does so too, and the whole is unsafe. 0, safe: no run from the part leaks. So none from the
+ * whole does in which no listed name is given to a blank that a condition or a step names. A name that a step creates is absent
+ * in the whole, and the buffer must be as long as the whole needs. Else the refusal, 1 to 9, 21 to 24, or 42 where a listed name
+ * does not exist, is above 31 or is listed before; *steps is 0.
+ */
+uint8_t access_judge_part(const uint8_t *file, size_t length, uint8_t right, const uint8_t *trusted, size_t trusted_length,
+                          uint8_t *buffer, size_t buffer_length, uint64_t *steps);
 
 /*
  * Whether all cells of a list can hold their rights at the same moment, as a press needs them. A cell is three bytes, right,

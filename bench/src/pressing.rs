@@ -1,5 +1,6 @@
-//! What a press needs beside the judge's rounds: of lists of cells that take the
-//! very steps of the judge, so that the two counts can be divided.
+//! What a press needs, and the judge without anybody left out, beside the judge's
+//! rounds: of questions that take the very steps of the judge, so that the counts
+//! can be divided.
 
 use crate::families::Sample;
 use crate::measure::{fail, instructions, millions, run, Run};
@@ -14,7 +15,8 @@ use std::time::Duration;
 
 /// What is to be reached: at most so many times the judge's rounds, on each file.
 const TIMES: f64 = 1.2;
-pub const REACHED: &str = "a press needs at most 1.2 times the judge's rounds";
+pub const REACHED: &str =
+    "a press, and the judge of a part, need at most 1.2 times the judge's rounds";
 const FAMILIES: [&str; 2] = ["large", "chain"];
 /// The lists: one cell, and as many as there may be.
 const LISTS: [usize; 2] = [1, 8];
@@ -40,9 +42,9 @@ struct Question {
 pub fn print(pressing: &Pressing, samples: &[Sample]) -> Vec<String> {
     let mut missed = Vec::new();
     println!(
-        "| file             | press | steps |   judge M | 1 cell M | times | 8 cells M | times |"
+        "| file             | press | steps |   judge M |    part M | times | 1 cell M | times | 8 cells M | times |"
     );
-    println!("|---|---|---:|---:|---:|---:|---:|---:|");
+    println!("|---|---|---:|---:|---:|---:|---:|---:|---:|---:|");
     let held_to = |sample: &&Sample| FAMILIES.contains(&sample.family);
     for sample in samples.iter().filter(held_to) {
         let draft = without_deletes(&sample.draft);
@@ -59,7 +61,7 @@ pub fn print(pressing: &Pressing, samples: &[Sample]) -> Vec<String> {
         let counts = pressing.counts(sample, &draft, &answer, &cells);
         let times = |count: u64| count as f64 / counts[0] as f64;
         println!(
-            "| {:<16} | {:<5} | {:>5} | {:>9} | {:>8} | {:>5.2} | {:>9} | {:>5.2} |",
+            "| {:<16} | {:<5} | {:>5} | {:>9} | {:>9} | {:>5.2} | {:>8} | {:>5.2} | {:>9} | {:>5.2} |",
             sample.name,
             if answer.is_unsafe { "HELD" } else { "NEVER" },
             answer.steps.len(),
@@ -68,11 +70,13 @@ pub fn print(pressing: &Pressing, samples: &[Sample]) -> Vec<String> {
             times(counts[1]),
             millions(counts[2]),
             times(counts[2]),
+            millions(counts[3]),
+            times(counts[3]),
         );
-        for (count, cells) in counts[1..].iter().zip(LISTS) {
+        for (count, what) in counts[1..].iter().zip(["part", "1 cell", "8 cells"]) {
             if times(*count) > TIMES {
                 missed.push(format!(
-                    "{}, {cells} cells: {:.2} times the judge's rounds",
+                    "{}, {what}: {:.2} times the judge's rounds",
                     sample.name,
                     times(*count)
                 ));
@@ -134,18 +138,20 @@ fn never(table: &Table, entered: &[Cell], right: u8) -> Option<Cell> {
 }
 
 impl Pressing {
-    /// Instructions of the judge and of each list, without those of the start.
+    /// Instructions of the judge, of the judge without anybody left out and of each
+    /// list, without those of the start.
     fn counts(&self, sample: &Sample, draft: &Draft, answer: &Answer, cells: &[Cell]) -> Vec<u64> {
         let steps = answer.steps.len();
         let (verdict, held) = match answer.is_unsafe {
             true => ("UNSAFE", "HELD"),
             false => ("SAFE", "NEVER"),
         };
-        let mut questions = vec![Question {
-            word: "judge",
+        let judged = |word| Question {
+            word,
             input: [vec![sample.right], draft.file()].concat(),
             wanted: format!("{verdict} {steps}\n"),
-        }];
+        };
+        let mut questions = vec![judged("judge"), judged("part")];
         for count in LISTS {
             let list = cells[cells.len() - count..].concat();
             questions.push(Question {

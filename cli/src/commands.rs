@@ -10,7 +10,7 @@ pub mod show;
 
 use crate::arguments::{Arguments, Choice};
 use crate::failure::Failure;
-use crate::input::{shown, Input};
+use crate::input::{self, shown, Content, Input};
 use crate::json::Json;
 use crate::output::{self, Manner};
 use crate::refused::BadFile;
@@ -94,12 +94,34 @@ pub const FORCE: Choice = Choice {
     value: None,
     help: "write over files that are there",
 };
+/// The steps of an answer that has some.
+pub const fn trace(help: &'static str) -> Choice {
+    Choice {
+        long: "--trace",
+        short: None,
+        value: Some("OUT"),
+        help,
+    }
+}
 pub const NO_WAIT: Choice = Choice {
     long: "--no-wait",
     short: None,
     value: None,
     help: "stop at once if another run is at work on the file, instead of waiting",
 };
+
+/// The answer about the file or table that comes first, or the proved reader's refusal of it.
+pub fn about(
+    arguments: &Arguments,
+    view: &View,
+    answer: impl FnOnce(&Input, &Content) -> Result<Answer, Failure>,
+) -> Result<Answer, Failure> {
+    let input = input::read(&arguments.plain[0], arguments.value("--names"))?;
+    match &input.content {
+        Ok(content) => answer(&input, content),
+        Err(refusal) => Ok(refused(&input, *refusal, view)),
+    }
+}
 
 /// The answer of a command to a file that the proved reader refuses.
 pub fn refused(input: &Input, refusal: u8, view: &View) -> Answer {
@@ -114,23 +136,33 @@ pub fn refused(input: &Input, refusal: u8, view: &View) -> Answer {
     }
 }
 
-/// Writes what an option of a command asks for, if there is something, and says so.
+/// Writes what an option of a command asks for, if it is there, and says so.
 pub fn put(
     answer: &mut Answer,
     command: &Command,
     arguments: &Arguments,
     option: &str,
-    content: Option<Vec<u8>>,
+    content: impl FnOnce() -> Vec<u8>,
 ) {
-    let path = arguments.value(option).unwrap_or_default();
-    let Some(content) = content else {
-        let path = shown(path);
-        let note = format!("{path} was not written: a refused question has no steps");
-        return answer.notes.push(note);
+    let Some(path) = arguments.value(option) else {
+        return;
     };
-    match command.write(path, &content, arguments.has("--force")) {
+    match command.write(path, &content(), arguments.has("--force")) {
         Ok(notes) => answer.notes.extend(notes),
         Err(failure) => answer.failures.push(failure),
+    }
+}
+
+/// Writes the steps where `--trace` asks for them. An empty trace would be replayed without a leak and without a refusal,
+/// so that a refused question leaves none.
+pub fn put_trace(answer: &mut Answer, command: &Command, arguments: &Arguments, trace: &[u8]) {
+    match arguments.value("--trace") {
+        Some(path) if answer.status == REFUSED => {
+            let path = shown(path);
+            let note = format!("{path} was not written: a refused question has no steps");
+            answer.notes.push(note);
+        }
+        _ => put(answer, command, arguments, "--trace", || trace.to_vec()),
     }
 }
 

@@ -8,6 +8,14 @@ pub fn count(number: usize, noun: &str) -> String {
     }
 }
 
+/// `own, read and print`, all of them.
+pub fn all_of(words: &[String]) -> String {
+    match words {
+        [most @ .., last] if !most.is_empty() => format!("{} and {last}", most.join(", ")),
+        _ => words.concat(),
+    }
+}
+
 /// `own, read or print`; of many words the first few.
 pub fn one_of(words: &[String]) -> String {
     const FEW: usize = 10;

@@ -139,6 +139,19 @@ impl Matrix {
             .collect()
     }
 
+    /// The matrix without some names, their rows and columns.
+    pub fn without(&self, names: &[u8]) -> Matrix {
+        let mut part = self.clone();
+        for name in names.iter().map(|&name| usize::from(name)) {
+            part.kinds[name] = Kind::Absent;
+            for other in 0..NAMES {
+                *part.cell_mut(name, other) = RightSet::default();
+                *part.cell_mut(other, name) = RightSet::default();
+            }
+        }
+        part
+    }
+
     /// The cells that hold a right, row by row.
     pub fn holding(&self, right: usize) -> Vec<(usize, usize)> {
         let pairs = (0..NAMES).flat_map(|s| (0..NAMES).map(move |o| (s, o)));

@@ -27,9 +27,19 @@ pub struct Input {
     pub content: Result<Content, u8>,
 }
 
+#[derive(Clone)]
 pub struct Content {
     pub house: House,
     pub words: Words,
+}
+
+impl Content {
+    /// The same without some names, their rows and columns.
+    pub fn without(&self, names: &[u8]) -> Content {
+        let mut part = self.clone();
+        part.house.matrix = self.house.matrix.without(names);
+        part
+    }
 }
 
 /// How a path is called in messages.

@@ -1,5 +1,5 @@
 //! The proved library behind its C boundary (`include/tugcaphi.h`). Every verdict, refusal, replay,
-//! rule run and answer to a press is one of these five answers, decided there and nowhere else.
+//! rule run and answer to a press is one of these six answers, decided there and nowhere else.
 
 #[link(name = "exports", kind = "static")]
 extern "C" {
@@ -17,6 +17,16 @@ extern "C" {
         file: *const u8,
         length: usize,
         right: u8,
+        buffer: *mut u8,
+        buffer_length: usize,
+        steps: *mut u64,
+    ) -> u8;
+    fn access_judge_part(
+        file: *const u8,
+        length: usize,
+        right: u8,
+        trusted: *const u8,
+        trusted_length: usize,
         buffer: *mut u8,
         buffer_length: usize,
         steps: *mut u64,
@@ -54,6 +64,16 @@ pub enum Judgement {
     Safe(u64),
     Unsafe(u64),
     Refused(u8),
+}
+
+impl Judgement {
+    fn of(code: u8, steps: u64) -> Judgement {
+        match code {
+            0 => Judgement::Safe(steps),
+            LEAK => Judgement::Unsafe(steps),
+            by => Judgement::Refused(by),
+        }
+    }
 }
 
 #[derive(Clone, Copy, Debug, PartialEq, Eq)]
@@ -113,11 +133,28 @@ pub fn judge(file: &[u8], right: u8, buffer: &mut [u8]) -> Judgement {
             &mut steps,
         )
     };
-    match code {
-        0 => Judgement::Safe(steps),
-        LEAK => Judgement::Unsafe(steps),
-        by => Judgement::Refused(by),
-    }
+    Judgement::of(code, steps)
+}
+
+/// The judge of what stays without the trusted names, a byte each, and their rows and columns; its steps are written as
+/// the judge's are.
+pub fn judge_part(file: &[u8], right: u8, trusted: &[u8], buffer: &mut [u8]) -> Judgement {
+    let mut steps = 0;
+    // SAFETY: pointers and lengths are those of slices that do not overlap; of these only the
+    // buffer, lent for writing, is written. The number of steps is one of our own.
+    let code = unsafe {
+        access_judge_part(
+            file.as_ptr(),
+            file.len(),
+            right,
+            trusted.as_ptr(),
+            trusted.len(),
+            buffer.as_mut_ptr(),
+            buffer.len(),
+            &mut steps,
+        )
+    };
+    Judgement::of(code, steps)
 }
 
 /// Whether all cells, three bytes each, can be held at the same moment. The steps fill the front of the buffer; the

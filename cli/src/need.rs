@@ -9,8 +9,7 @@ use crate::house::{House, Matrix};
 use crate::library::{self, Need};
 use crate::limits::{BUFFER_BYTES, NEEDED_BYTES, STEP_BYTES};
 use crate::machine::Held;
-use crate::story::{carry_out, Done};
-use crate::trace::steps;
+use crate::story::{carry_out_all, Done};
 
 /// A list of cells as it was asked, with what was answered.
 pub struct Answered {
@@ -78,15 +77,11 @@ fn out_of_reach(file: &[u8], list: &[u8]) -> Vec<Held> {
 
 /// The steps, carried out one after the other.
 fn way(file: &[u8], house: &House, wanted: &[Held], trace: &[u8]) -> Result<Way, Failure> {
-    let (mut file, mut after) = (file.to_vec(), house.clone());
-    let mut done = Vec::new();
-    for step in steps(trace) {
-        done.push(carry_out(&mut file, &mut after, step).map_err(|_| astray())?);
-    }
+    let (steps, after) = carry_out_all(file, house, trace).ok_or_else(astray)?;
     let held = |&(right, subject, name): &Held| after.matrix.cell(subject, name).has(right);
     match wanted.iter().all(held) {
         true => Ok(Way {
-            steps: done,
+            steps,
             after: after.matrix,
         }),
         false => Err(astray()),

@@ -6,7 +6,7 @@ pub mod matrix;
 pub mod panel;
 
 use crate::input::Content;
-use crate::verdict::Verdict;
+use crate::verdict::{left_out, text, Verdict};
 use canvas::Canvas;
 
 const MARGIN: usize = 24;
@@ -20,6 +20,12 @@ pub fn svg(title: &str, content: &Content, verdicts: &[Verdict]) -> String {
     let wide = panels.iter().map(|panel| panel.width).max().unwrap_or(0);
     let mut page = Canvas::new(2 * MARGIN + wide, MARGIN + 30);
     page.text(MARGIN, MARGIN + 14, "title", title);
+    if let names @ [_, ..] = left_out(verdicts) {
+        let without = text::without(&content.words, names);
+        page.text(MARGIN, page.height + 10, "quiet", &without);
+        page.width = page.width.max(2 * MARGIN + canvas::measure(&without, 13));
+        page.height += 22;
+    }
     for panel in panels {
         let top = page.height + 8;
         let card = panel::framed(&panel, wide);

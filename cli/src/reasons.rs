@@ -1,8 +1,8 @@
-//! Why a rule run was refused: which actual, condition or step; and why a list of cells was. The number is the proved
-//! library's; the reason is found beside it and is left out where it belongs to another number.
+//! Why a rule run was refused: which actual, condition or step; and why a list of cells or of names was. The number is the
+//! proved library's; the reason is found beside it and is left out where it belongs to another number.
 
 use crate::count::count;
-use crate::house::{Condition, House, Matrix, Rule};
+use crate::house::{Condition, House, Kind, Matrix, Rule};
 use crate::limits::{NAMES, NEEDED_BYTES, NEEDED_CELLS, UNUSED};
 use crate::machine::{perform, reachable, Held, Why};
 use crate::need::cells;
@@ -47,6 +47,26 @@ pub fn of_list(house: &House, words: &Words, list: &[u8]) -> Option<String> {
     whole.iter().find_map(|&cell| not_there(house, words, cell))
 }
 
+/// The reason why names cannot be left out, where it is found.
+pub fn of_names(house: &House, words: &Words, names: &[u8]) -> Option<String> {
+    let wrong = |(place, &name): (usize, &u8)| {
+        let number = usize::from(name);
+        match house.matrix.kinds.get(number) {
+            None => Some(no_name(number)),
+            Some(Kind::Absent) => Some(because(Why::Absent(number), words)),
+            _ if names[..place].contains(&name) => {
+                Some(format!("{} is listed twice", words.name(number)))
+            }
+            _ => None,
+        }
+    };
+    names.iter().enumerate().find_map(wrong)
+}
+
+fn no_name(number: usize) -> String {
+    format!("{number} is no name; names are 0 to {}", NAMES - 1)
+}
+
 /// What of a cell is not there.
 fn not_there(house: &House, words: &Words, (right, subject, name): Held) -> Option<String> {
     let rights = count(house.rights, "right");
@@ -57,10 +77,7 @@ fn not_there(house: &House, words: &Words, (right, subject, name): Held) -> Opti
     }
     let cell = words.cell(subject, name);
     if let Some(above) = [subject, name].into_iter().find(|&one| one >= NAMES) {
-        let most = NAMES - 1;
-        return Some(format!(
-            "the cell {cell}: {above} is no name; names are 0 to {most}"
-        ));
+        return Some(format!("the cell {cell}: {}", no_name(above)));
     }
     let why = reachable(&house.matrix, subject, name).err()?;
     Some(format!("the cell {cell}: {}", because(why, words)))
@@ -122,7 +139,7 @@ impl Run<'_> {
                 ));
             }
             if used && usize::from(name) >= NAMES {
-                return Some(format!("{name} is no name; names are 0 to {}", NAMES - 1));
+                return Some(no_name(usize::from(name)));
             }
             if !used && name != UNUSED {
                 return Some(format!("there is a name too many; {blanks_are}"));

@@ -38,7 +38,7 @@ const fn refusal(
     }
 }
 
-pub const ALL: [Refusal; 19] = [
+pub const ALL: [Refusal; 20] = [
     refusal(
         1,
         WRITER,
@@ -167,5 +167,12 @@ pub const ALL: [Refusal; 19] = [
          there, a first name that is no subject, or a second that does not exist",
         "give a right, a subject and a name for each of at most 8 cells; what the rules would \
          have to create first cannot be asked for",
+    ),
+    refusal(
+        42,
+        ASKER,
+        "a name that is to be left out does not exist, is above 31, or is listed before",
+        "list each trusted name once, and only names that exist; what the rules would have to \
+         create first cannot be left out",
     ),
 ];

@@ -7,7 +7,7 @@ use crate::picture::canvas::{escaped, measure};
 use crate::picture::panel;
 use crate::story::{self, Jobs};
 use crate::table::writer;
-use crate::verdict::{text, Leak, Ruling, Verdict};
+use crate::verdict::{left_out, text, Leak, Ruling, Verdict};
 use crate::words::Words;
 use std::fmt::Write;
 
@@ -49,15 +49,21 @@ pub fn page(title: &str, content: &Content, verdicts: &[Verdict]) -> String {
          <h1>{title}</h1>\n\
          <p class=\"note\">Judged by tugcaphi {version}. Every verdict is the proved judge's.</p>\n"
     );
+    let names = left_out(verdicts);
+    if !names.is_empty() {
+        let without = escaped(&text::without(words, names));
+        let _ = writeln!(page, "<p><b>{without}</b></p>");
+    }
     page += &section("Verdicts", &summaries(content, verdicts));
     for verdict in verdicts {
         if let Ruling::Unsafe(leak) = &verdict.ruling {
             page += &unsafe_section(content, verdict, leak);
         }
     }
-    page += &section("The matrix", &matrix(house, words));
+    let judged = content.without(names).house;
+    page += &section("The matrix", &matrix(&judged, words));
     page += &section("The rules", &rules(house, words));
-    page += &section("How to read this", &reading(house));
+    page += &section("How to read this", &reading(house, !names.is_empty()));
     page += "</main>\n</body>\n</html>\n";
     page
 }
@@ -73,11 +79,15 @@ const SPARE: &str = "\
 <p>A blank of a rule that no condition and no step names takes any number, which changes nothing; it is left out of the \
 steps.</p>\n";
 
-fn reading(house: &House) -> String {
-    match house.rules.iter().all(|rule| rule.spare().is_empty()) {
-        true => READING.to_string(),
-        false => format!("{READING}{SPARE}"),
-    }
+const PART: &str = "\
+<p>Names that are left out are trusted: matrix, verdicts and pictures are of the table without their rows and columns. \
+Safe then holds as long as no rule is run with one of them. Unsafe holds with them there too.</p>\n";
+
+fn reading(house: &House, part: bool) -> String {
+    let spare = house.rules.iter().any(|rule| !rule.spare().is_empty());
+    let further = [(part, PART), (spare, SPARE)];
+    let further = further.iter().filter(|(told, _)| *told);
+    further.fold(READING.to_string(), |page, (_, text)| page + text)
 }
 
 fn section(title: &str, body: &str) -> String {

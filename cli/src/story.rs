@@ -6,7 +6,7 @@ use crate::house::{House, Kind, Matrix, Rule};
 use crate::library;
 use crate::limits::NAMES;
 use crate::machine::{perform, Act, Held};
-use crate::trace::{Given, Step};
+use crate::trace::{steps, Given, Step};
 use crate::words::Words;
 
 /// A step that was done, and what it did.
@@ -26,6 +26,17 @@ pub fn carry_out(file: &mut [u8], house: &mut House, step: Step) -> Result<Done,
         }
         refusal => Err(refusal),
     }
+}
+
+/// Carries out the steps of a trace on a copy, one after the other: what each did, and what the house is then. None where
+/// one of them is refused.
+pub fn carry_out_all(file: &[u8], house: &House, trace: &[u8]) -> Option<(Vec<Done>, House)> {
+    let (mut file, mut after) = (file.to_vec(), house.clone());
+    let mut done = Vec::new();
+    for step in steps(trace) {
+        done.push(carry_out(&mut file, &mut after, step).ok()?);
+    }
+    Some((done, after))
 }
 
 /// What the operations of a rule did one by one, or, where this does not come to the library's matrix, the difference.

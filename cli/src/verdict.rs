@@ -6,22 +6,25 @@ pub mod text;
 use crate::count::count;
 use crate::failure::Failure;
 use crate::house::House;
+use crate::input::Content;
 use crate::library::{self, Judgement};
 use crate::limits::{BUFFER_BYTES, JUDGED_NAMES, STEP_BYTES};
 use crate::machine::Held;
-use crate::story::{carry_out, leak, Done};
-use crate::trace::steps;
+use crate::reasons;
+use crate::story::{carry_out_all, leak, Done};
 use crate::words::Words;
 
 pub struct Verdict {
     pub right: u8,
+    /// The names that are trusted, as they were given.
+    pub without: Vec<u8>,
     /// The steps that the judge wrote, under safe too.
     pub trace: Vec<u8>,
     pub ruling: Ruling,
 }
 
 pub enum Ruling {
-    /// With the cells that hold the right already.
+    /// With the cells that hold the right already, of the names that are not left out.
     Safe(Vec<(usize, usize)>),
     Unsafe(Leak),
     Refused(u8),
@@ -36,12 +39,19 @@ pub struct Leak {
     pub again: bool,
 }
 
-/// Asks the judge about one right of an accepted file.
-pub fn judge(file: &[u8], house: &House, right: u8) -> Result<Verdict, Failure> {
+/// Asks the judge about one right of an accepted file, without the names that are trusted.
+pub fn judge(file: &[u8], house: &House, right: u8, without: &[u8]) -> Result<Verdict, Failure> {
     let mut buffer = vec![0; BUFFER_BYTES];
-    let (written, ruling) = match library::judge(file, right, &mut buffer) {
+    let judgement = match without {
+        [] => library::judge(file, right, &mut buffer),
+        names => library::judge_part(file, right, names, &mut buffer),
+    };
+    let (written, ruling) = match judgement {
         Judgement::Refused(refusal) => (0, Ruling::Refused(refusal)),
-        Judgement::Safe(n) => (n, Ruling::Safe(house.matrix.holding(usize::from(right)))),
+        Judgement::Safe(n) => {
+            let part = house.matrix.without(without);
+            (n, Ruling::Safe(part.holding(usize::from(right))))
+        }
         Judgement::Unsafe(n) => {
             let trace = &buffer[..STEP_BYTES * n as usize];
             (n, Ruling::Unsafe(told(file, house, right, trace)?))
@@ -50,23 +60,46 @@ pub fn judge(file: &[u8], house: &House, right: u8) -> Result<Verdict, Failure> 
     buffer.truncate(STEP_BYTES * written as usize);
     Ok(Verdict {
         right,
+        without: without.to_vec(),
         trace: buffer,
         ruling,
     })
 }
 
-/// The judge's steps, carried out one after the other.
-fn told(file: &[u8], house: &House, right: u8, trace: &[u8]) -> Result<Leak, Failure> {
-    let (mut file, mut after) = (file.to_vec(), house.clone());
-    let mut done = Vec::new();
-    for step in steps(trace) {
-        done.push(carry_out(&mut file, &mut after, step).map_err(|_| astray())?);
+impl Verdict {
+    /// The names that the verdict leaves out; none where it is refused.
+    pub fn left_out(&self) -> &[u8] {
+        match self.ruling {
+            Ruling::Refused(_) => &[],
+            _ => &self.without,
+        }
     }
-    let last = done.last().map_or(&[][..], |last| &last.acts);
+
+    /// What stands in the way of a verdict that is refused.
+    pub fn why(&self, content: &Content) -> Option<String> {
+        let Content { house, words } = content;
+        match self.ruling {
+            Ruling::Refused(42) => reasons::of_names(house, words, &self.without),
+            Ruling::Refused(refusal) => obstacle(house, words, refusal),
+            _ => None,
+        }
+    }
+}
+
+/// The names that verdicts of one question leave out; none where all are refused.
+pub fn left_out(verdicts: &[Verdict]) -> &[u8] {
+    let mut names = verdicts.iter().map(Verdict::left_out);
+    names.find(|names| !names.is_empty()).unwrap_or_default()
+}
+
+/// The judge's steps, carried out one after the other on the whole file, whoever was left out.
+fn told(file: &[u8], house: &House, right: u8, trace: &[u8]) -> Result<Leak, Failure> {
+    let (steps, _) = carry_out_all(file, house, trace).ok_or_else(astray)?;
+    let last = steps.last().map_or(&[][..], |last| &last.acts);
     let held = leak(last, usize::from(right)).ok_or_else(astray)?;
     Ok(Leak {
         again: house.matrix.cell(held.1, held.2).has(held.0),
-        steps: done,
+        steps,
         held,
     })
 }

@@ -86,6 +86,16 @@ pub fn job_number(given: &OsStr, blank: &str) -> Result<u8, Failure> {
     })
 }
 
+/// What stands in a list in the place of a name or a comma.
+fn unlisted(rest: &str) -> Failure {
+    let message = match rest {
+        "" => "a name is missing in the list".to_string(),
+        rest => format!("{rest} cannot be read as a list of names"),
+    };
+    let advice = "write the names with a comma between them, as in Ada,Ben; one with a comma in it stands in quotes";
+    Failure::said(message, advice)
+}
+
 impl Words {
     /// The number of a right that is given by word or number. Whether there is one of that number, the library says.
     pub fn right_number(&self, given: &OsStr) -> Result<u8, Failure> {
@@ -102,6 +112,34 @@ impl Words {
         let words = self.names.iter().enumerate();
         let words = words.filter_map(|(number, word)| Some((number, word.as_deref()?)));
         self.find(given, "name", words.collect())
+    }
+
+    /// The numbers of the names in a list, with commas between them. A name in quotes, as in a table, may have a comma.
+    pub fn name_numbers(&self, list: &OsStr) -> Result<Vec<u8>, Failure> {
+        let list = list.to_string_lossy();
+        let mut numbers = Vec::new();
+        let mut rest = list.as_ref();
+        loop {
+            rest = rest.trim_start();
+            let name;
+            (name, rest) = match rest.strip_prefix('"') {
+                Some(quoted) => word::unquoted(quoted).ok_or_else(|| unlisted(rest))?,
+                None => {
+                    let (name, after) = rest.split_at(rest.find(',').unwrap_or(rest.len()));
+                    (name.trim_end().to_string(), after)
+                }
+            };
+            if name.is_empty() {
+                return Err(unlisted(""));
+            }
+            numbers.push(self.name_number(OsStr::new(&name))?);
+            rest = rest.trim_start();
+            match rest.strip_prefix(',') {
+                Some(after) => rest = after,
+                None if rest.is_empty() => return Ok(numbers),
+                None => return Err(unlisted(rest)),
+            }
+        }
     }
 
     /// No word of digits has another number than it spells, so a number is never taken for a word.

@@ -288,6 +288,14 @@ pub fn search(contents: &Contents, right: u8, further: usize, limit: usize) -> S
     search
 }
 
+/// With three further names if that can be exhausted, else with two; None if
+/// neither can. Gives the number of further names too.
+pub fn exhausted(contents: &Contents, right: u8, limit: usize) -> Option<(usize, Search)> {
+    let search = |further| (further, search(contents, right, further, limit));
+    let known = |(_, search): &(usize, Search)| search.found != Found::TooMany;
+    [3, 2].into_iter().map(search).find(known)
+}
+
 /// Which runs are looked at: all, or those that destroy no name of the start.
 #[derive(Clone, Copy, PartialEq, Eq)]
 pub enum Runs {

@@ -2,13 +2,13 @@
 //! with what document 02 demands of them.
 
 use crate::file::{self, Contents};
-use crate::generate::job_number;
 use crate::machine::{run, AccessMatrix, Bounded, Unbounded};
 use crate::need::{all_held, cells, need, Account, Cell, HELD, NEVER};
 use crate::random::Random;
 use crate::replay::rule_runs;
 use crate::report::{hex, Group};
 use crate::rounds::{most_steps, Listing, Rounds};
+use crate::written::{nothing, Written};
 
 /// What is under test: the answer, and the rule run that its steps must pass.
 #[derive(Clone, Copy)]
@@ -53,8 +53,7 @@ pub fn call(
     });
     let said = match code {
         HELD | NEVER => stands(under_test, random, question, (code, steps), &before, buffer),
-        _ if steps != 0 || before != buffer => Err("refused, yet steps or bytes".to_string()),
-        _ => Ok(()),
+        _ => nothing(steps, &before, buffer),
     };
     group.demand(said.is_ok(), || {
         format!(
@@ -75,14 +74,11 @@ fn stands(
     before: &[u8],
     buffer: &[u8],
 ) -> Result<(), String> {
-    let contents = file::read(question.file).map_err(|refusal| format!("a file of {refusal}"))?;
-    if steps > most_steps(&contents) as u64 || 5 * steps > buffer.len() as u64 {
-        return Err("more steps than the bound".to_string());
-    }
-    let (trace, behind) = buffer.split_at(5 * steps as usize);
-    if behind != &before[trace.len()..] {
-        return Err("bytes behind the steps changed".to_string());
-    }
+    let Written {
+        contents,
+        trace,
+        numbered,
+    } = Written::new(random, question.file, steps, before, buffer)?;
     let cells = cells(question.list);
     if !cells.iter().all(|cell| cell.there(&contents)) {
         return Err("answered of a cell that is not there".to_string());
@@ -93,7 +89,6 @@ fn stands(
     if held != wanted {
         return Err(format!("all cells are held after the fronts {held:?}"));
     }
-    let numbered = with_job_numbers(random, &contents, trace)?;
     for trace in [trace, numbered.as_slice()] {
         done_on_file(under_test, question.file, trace, &cells, code == HELD)?;
     }
@@ -116,24 +111,6 @@ fn fronts<M: AccessMatrix, T>(
         all.push(of(&state));
     }
     Ok(all)
-}
-
-/// The steps with other numbers in spare blanks, which must be 0.
-fn with_job_numbers(
-    random: &mut Random,
-    contents: &Contents,
-    trace: &[u8],
-) -> Result<Vec<u8>, String> {
-    let mut numbered = trace.to_vec();
-    for step in numbered.chunks_exact_mut(5) {
-        for &blank in &contents.rules[step[0] as usize].spare {
-            if step[1 + blank] != 0 {
-                return Err(format!("not 0 in a spare blank of {step:?}"));
-            }
-            step[1 + blank] = job_number(random);
-        }
-    }
-    Ok(numbered)
 }
 
 /// The library's own rule runs do every step, and the file holds what it should.
@@ -196,7 +173,7 @@ impl Course {
     pub fn of(contents: &Contents) -> Course {
         let mut trace = vec![0; 5 * most_steps(contents)];
         let mut listing = Listing::new(&contents.rules, &mut trace);
-        Rounds::run(contents, &mut listing, |_| false);
+        Rounds::run(contents, &[], &mut listing, |_| false);
         let end = 5 * listing.steps as usize;
         trace.truncate(end);
         let spare = |step: &[u8]| !contents.rules[step[0] as usize].spare.is_empty();

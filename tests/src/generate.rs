@@ -828,3 +828,16 @@ pub fn busy_chain(random: &mut Random) -> (Draft, u8) {
     draft.spread_spares(random);
     (draft, seal)
 }
+
+/// Puts creates of both kinds between the rules, for which 30 names leave room.
+pub fn both_creates(random: &mut Random, draft: &mut Draft) {
+    draft.rules.truncate(28);
+    // Twice each: the second finds a name absent once, and then none.
+    for kind in [CREATE_SUBJECT, CREATE_OBJECT, CREATE_OBJECT, CREATE_SUBJECT] {
+        let place = random.below(draft.rules.len() + 1);
+        let section = rule(1, &[], &[[kind, 0, 0, 0]]);
+        let spare = random.below(4);
+        let section = with_spares(random, &section, spare);
+        draft.rules.insert(place, section);
+    }
+}

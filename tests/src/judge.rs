@@ -22,28 +22,48 @@ pub struct Account {
 }
 
 pub fn judge(file: &[u8], right: u8, buffer: &mut [u8]) -> Account {
-    let refused = |code: u8| Account {
-        code,
-        steps: 0,
-        spare: 0,
-        rounds: 0,
-        closing: false,
-    };
-    let contents = match file::read(file) {
-        Ok(contents) => contents,
-        Err(refusal) => return refused(refusal),
-    };
+    judge_part(file, right, &[], buffer)
+}
+
+/// The judge of the part that stays without the trusted names (document 02,
+/// C-15), a byte each.
+pub fn judge_part(file: &[u8], right: u8, trusted: &[u8], buffer: &mut [u8]) -> Account {
+    match asked(file, right, trusted, buffer.len()) {
+        Ok(part) => answer(&part, right, trusted, buffer),
+        Err(refusal) => Account {
+            code: refusal,
+            steps: 0,
+            spare: 0,
+            rounds: 0,
+            closing: false,
+        },
+    }
+}
+
+/// The part, or the refusal: the file's, 21, then 22 to 24 of the whole, 42.
+fn asked(file: &[u8], right: u8, trusted: &[u8], length: usize) -> Result<Contents, u8> {
+    let mut contents = file::read(file)?;
     if right >= contents.rights {
-        return refused(21);
+        return Err(21);
     }
-    if let Err(refusal) = refusal(&contents, buffer.len()) {
-        return refused(refusal);
+    refusal(&contents, length)?;
+    for (place, &name) in trusted.iter().enumerate() {
+        let there = usize::from(name) < NAMES && contents.matrix.exists(u64::from(name));
+        if !there || trusted[..place].contains(&name) {
+            return Err(42);
+        }
     }
-    let mut listing = Listing::new(&contents.rules, buffer);
-    let rounds = Rounds::run(&contents, &mut listing, |done| {
+    contents.matrix = contents.matrix.without(trusted);
+    Ok(contents)
+}
+
+fn answer(part: &Contents, right: u8, trusted: &[u8], buffer: &mut [u8]) -> Account {
+    let mut listing = Listing::new(&part.rules, buffer);
+    // Absent in the whole is absent in the part, and not listed.
+    let rounds = Rounds::run(part, trusted, &mut listing, |done| {
         done.leaked >> right & 1 == 1
     });
-    let closing = !rounds.ended && close(&contents, &rounds.state, right, &mut listing);
+    let closing = !rounds.ended && close(part, &rounds.state, right, &mut listing);
     Account {
         code: if rounds.ended || closing {
             UNSAFE

@@ -56,8 +56,19 @@ impl Bounded {
         (0..NAMES as u64).filter(|&n| self.is_subject(n)).collect()
     }
 
-    pub fn lowest_absent(&self) -> Option<u64> {
-        (0..NAMES as u64).find(|&n| !self.exists(n))
+    /// The lowest name that is absent and none of these.
+    pub fn lowest_absent(&self, reserved: &[u8]) -> Option<u64> {
+        let reserved = |n: u64| reserved.iter().any(|&name| u64::from(name) == n);
+        (0..NAMES as u64).find(|&n| !self.exists(n) && !reserved(n))
+    }
+
+    /// What stays without these names, their rows and columns.
+    pub fn without(&self, names: &[u8]) -> Bounded {
+        let mut part = self.clone();
+        for &name in names {
+            part.destroy(u64::from(name));
+        }
+        part
     }
 }
 

@@ -87,7 +87,10 @@ fn asked(file: &[u8], list: &[u8], length: usize) -> Result<(Contents, Vec<Cell>
 fn answer(contents: &Contents, cells: &[Cell], buffer: &mut [u8]) -> Account {
     let mut listing = Listing::new(&contents.rules, buffer);
     let held = all_held(cells, &contents.matrix)
-        || Rounds::run(contents, &mut listing, |done| all_held(cells, &done.after)).ended;
+        || Rounds::run(contents, &[], &mut listing, |done| {
+            all_held(cells, &done.after)
+        })
+        .ended;
     Account {
         code: if held { HELD } else { NEVER },
         steps: listing.steps,

@@ -1,19 +1,49 @@
 //! Comparing a judge with the reference judge, and its steps with what
-//! document 01 demands of them.
+//! document 01 demands of them; of the part that stays without trusted names
+//! (document 02, C-15) too.
 
 use crate::file;
-use crate::generate::job_number;
-use crate::judge::{judge, Account, SAFE, UNSAFE};
+use crate::judge::{judge_part, Account, SAFE, UNSAFE};
+use crate::machine::write_matrix;
 use crate::random::Random;
 use crate::replay::{play_unbounded, Outcome, LEAK};
 use crate::report::{hex, Group};
 use crate::rounds::most_steps;
+use crate::written::{nothing, Written};
+
+/// What is asked: a right of a file, without the names that are trusted.
+#[derive(Clone, Copy)]
+pub struct Question<'a> {
+    pub file: &'a [u8],
+    pub right: u8,
+    pub trusted: &'a [u8],
+}
+
+impl<'a> Question<'a> {
+    /// Of the whole file.
+    pub fn new(file: &'a [u8], right: u8) -> Question<'a> {
+        Question {
+            file,
+            right,
+            trusted: &[],
+        }
+    }
+
+    pub fn without(self, trusted: &'a [u8]) -> Question<'a> {
+        Question { trusted, ..self }
+    }
+
+    pub fn shown(&self) -> String {
+        let (right, trusted) = (self.right, self.trusted);
+        format!("right {right} without {trusted:?}, {}", hex(self.file))
+    }
+}
 
 /// What is under test: the judge, and the replay that its steps must pass.
 #[derive(Clone, Copy)]
 pub struct Library {
-    /// File, right and buffer to the answer and the number of steps.
-    pub judge: fn(&[u8], u8, &mut [u8]) -> (u8, u64),
+    /// To the answer and the number of steps.
+    pub judge: fn(Question, &mut [u8]) -> (u8, u64),
     /// File, trace and right to the answer and the step.
     pub replay: fn(&[u8], &[u8], u8) -> (u8, u64),
 }
@@ -23,101 +53,106 @@ pub fn needed(file: &[u8]) -> usize {
     5 * most_steps(&file::read(file).expect("an accepted file"))
 }
 
-/// Calls the judge under test; the file must keep its bytes. Demands of the
-/// steps that they replay, leak where they must, keep the bound, have 0 in spare
-/// blanks and replay with other bytes there too, and that the bytes behind them
-/// are those from before. The reference judge has no part.
+/// The file of the part that stays, for an accepted file and names of it.
+pub fn part(file: &[u8], trusted: &[u8]) -> Vec<u8> {
+    let whole = file::read(file).expect("an accepted file").matrix;
+    let mut part = file.to_vec();
+    write_matrix(&mut part, &whole.without(trusted));
+    part
+}
+
+/// Calls the judge under test; file and list must keep their bytes. Demands of
+/// the steps what can be told without the rounds. The reference judge has no
+/// part.
 fn call(
     group: &mut Group,
     under_test: Library,
     random: &mut Random,
-    file: &[u8],
-    right: u8,
+    question: Question,
     buffer: &mut [u8],
 ) -> (u8, u64) {
-    let (file_before, before) = (file.to_vec(), buffer.to_vec());
-    let (code, steps) = (under_test.judge)(file, right, buffer);
-    group.demand(file == file_before, || {
-        format!("file changed, it was {}", hex(&file_before))
+    let (file, trusted) = (question.file.to_vec(), question.trusted.to_vec());
+    let before = buffer.to_vec();
+    let (code, steps) = (under_test.judge)(question, buffer);
+    let kept = file == question.file && trusted == question.trusted;
+    group.demand(kept, || {
+        format!("file or list changed: {}", question.shown())
     });
-
-    let about = || format!("answer {code}, {steps} steps, right {right}, {}", hex(file));
-    if !matches!(code, SAFE | UNSAFE) {
-        group.demand(steps == 0 && before == buffer, || {
-            format!("refused, yet steps given or bytes changed: {}", about())
-        });
-        return (code, steps);
-    }
-    let Ok(contents) = file::read(file) else {
-        group.demand(false, || format!("a wrong file is judged: {}", about()));
-        return (code, steps);
+    let said = match code {
+        SAFE | UNSAFE => stands(under_test, random, question, (code, steps), &before, buffer),
+        _ => nothing(steps, &before, buffer),
     };
-    let most = most_steps(&contents) as u64;
-    let length = buffer.len() as u64;
-    if steps > most || 5 * steps > length {
-        group.demand(false, || {
-            format!("more than {most} steps or {length} bytes: {}", about())
-        });
-        return (code, steps);
-    }
-    let end = 5 * steps as usize;
-    group.demand(before[end..] == buffer[end..], || {
-        format!("bytes behind the steps changed: {}", about())
-    });
-    let outcome = play_unbounded(&contents, &buffer[..end], right);
-    let good = match code {
-        SAFE => outcome == Outcome::NoLeak,
-        _ => steps > 0 && outcome == Outcome::Leak(steps - 1),
-    };
-    group.demand(good, || {
+    group.demand(said.is_ok(), || {
+        let end = buffer.len().min(5 * steps.min(2_000) as usize);
         format!(
-            "the steps {} replay as {outcome:?}: {}",
+            "{said:?}: answer {code}, steps {}, {}",
             hex(&buffer[..end]),
-            about()
-        )
-    });
-    // The library's own replay says the same, and no leak one step sooner.
-    let sooner = end.saturating_sub(5);
-    let replayed = (under_test.replay)(file, &buffer[..end], right);
-    let cut = (under_test.replay)(file, &buffer[..sooner], right);
-    let wanted = match code {
-        SAFE => (0, 0),
-        _ => (LEAK, steps.wrapping_sub(1)),
-    };
-    group.demand(replayed == wanted && cut == (0, 0), || {
-        format!(
-            "the library replays the steps {} as {replayed:?}, without the last as {cut:?}: {}",
-            hex(&buffer[..end]),
-            about()
-        )
-    });
-    let mut numbered = buffer[..end].to_vec();
-    let mut zeros = true;
-    for step in numbered.chunks_exact_mut(5) {
-        let Some(rule) = contents.rules.get(step[0] as usize) else {
-            continue;
-        };
-        for &blank in &rule.spare {
-            zeros &= step[1 + blank] == 0;
-            step[1 + blank] = job_number(random);
-        }
-    }
-    group.demand(zeros, || {
-        format!(
-            "not 0 in a spare blank of the steps {}: {}",
-            hex(&buffer[..end]),
-            about()
-        )
-    });
-    let replayed = (under_test.replay)(file, &numbered, right);
-    group.demand(replayed == wanted, || {
-        format!(
-            "the library replays {} as {replayed:?}: {}",
-            hex(&numbered),
-            about()
+            question.shown()
         )
     });
     (code, steps)
+}
+
+/// Whether the steps keep the bound, have 0 in spare blanks, leave the bytes
+/// behind them, and leak where they must and nowhere else: on the whole, and on
+/// the part as a start of its own.
+fn stands(
+    under_test: Library,
+    random: &mut Random,
+    question: Question,
+    (code, steps): (u8, u64),
+    before: &[u8],
+    buffer: &[u8],
+) -> Result<(), String> {
+    let Question {
+        file,
+        right,
+        trusted,
+    } = question;
+    let written = Written::new(random, file, steps, before, buffer)?;
+    let leak = match code {
+        SAFE => None,
+        _ => Some(steps.checked_sub(1).ok_or("unsafe without a step")?),
+    };
+    replays(under_test, file, right, &written, leak).map_err(|wrong| format!("{wrong}, whole"))?;
+    if trusted.is_empty() {
+        return Ok(());
+    }
+    if trusted.iter().any(|&name| name > 31) {
+        return Err("answered without a name above 31".to_string());
+    }
+    let part = part(file, trusted);
+    replays(under_test, &part, right, &written, leak).map_err(|wrong| format!("{wrong}, part"))
+}
+
+/// Whether the steps leak at this one alone, or not at all: on the printer's
+/// machine, and by the library's own replay, with other bytes in spare blanks
+/// too.
+fn replays(
+    under_test: Library,
+    file: &[u8],
+    right: u8,
+    written: &Written,
+    leak: Option<u64>,
+) -> Result<(), String> {
+    let contents = file::read(file).expect("an accepted file");
+    let outcome = play_unbounded(&contents, written.trace, right);
+    if outcome != leak.map_or(Outcome::NoLeak, Outcome::Leak) {
+        return Err(format!("the steps replay as {outcome:?}"));
+    }
+    let wanted = leak.map_or((0, 0), |step| (LEAK, step));
+    let sooner = written.trace.len().saturating_sub(5);
+    for (trace, wanted) in [
+        (written.trace, wanted),
+        (&written.trace[..sooner], (0, 0)),
+        (written.numbered.as_slice(), wanted),
+    ] {
+        let replayed = (under_test.replay)(file, trace, right);
+        if replayed != wanted {
+            return Err(format!("the library replays {trace:?} as {replayed:?}"));
+        }
+    }
+    Ok(())
 }
 
 /// One input: the same answer, number and bytes as the reference judge.
@@ -126,21 +161,20 @@ pub fn compare(
     group: &mut Group,
     under_test: Library,
     random: &mut Random,
-    file: &[u8],
-    right: u8,
+    question: Question,
     length: usize,
 ) -> (Account, u8) {
     let mut given = random.bytes(length);
     let mut wanted = given.clone();
-    let account = judge(file, right, &mut wanted);
-    let answer = call(group, under_test, random, file, right, &mut given);
+    let account = judge_part(question.file, question.right, question.trusted, &mut wanted);
+    let answer = call(group, under_test, random, question, &mut given);
     group.input(
         answer == (account.code, account.steps) && given == wanted,
         || {
             let first = given.iter().zip(&wanted).position(|(g, w)| g != w);
             format!(
-                "answer {answer:?}, reference {account:?}, first different byte {first:?} of {length}, right {right}, {}",
-                hex(file)
+                "answer {answer:?}, reference {account:?}, first different byte {first:?} of {length}, {}",
+                question.shown()
             )
         },
     );

@@ -1,9 +1,11 @@
 //! `judge`: can a right come into a cell that lacks it, and by which steps.
 
-use super::{put, Answer, Command, View, FORCE, GOOD, LEAK, NAMES, REFUSED};
+use super::{
+    about, put, put_trace, trace, Answer, Command, View, FORCE, GOOD, LEAK, NAMES, REFUSED,
+};
 use crate::arguments::{Arguments, Choice};
 use crate::failure::Failure;
-use crate::input::{self, Content, Input};
+use crate::input::Content;
 use crate::picture;
 use crate::report;
 use crate::verdict::{self, json, text, Ruling, Verdict};
@@ -15,17 +17,21 @@ pub const COMMAND: Command = Command {
     summary: "safe or unsafe: can a right come into a cell that lacks it, and how",
     about: "Each right that is given, or every right, gets its verdict from the proved judge. Safe: no run of the\n\
             rules, however long, enters the right into a cell that lacks it. Unsafe: the steps of one way are told, of\n\
-            perhaps many. The judge takes rules of one step and at most 30 names. Exit status 1 for unsafe.",
+            perhaps many. The judge takes rules of one step and at most 30 names. Exit status 1 for unsafe.\n\
+            With --without it judges the table without some names, their rows and columns: those of an office, say,\n\
+            that is trusted and may grant everything anyway. Safe then holds as long as no rule is run with one of\n\
+            them; unsafe holds with them there too.",
     least: 1,
     most: usize::MAX,
     options: &[
         NAMES,
         Choice {
-            long: "--trace",
+            long: "--without",
             short: None,
-            value: Some("OUT"),
-            help: "write the judge's steps, 5 bytes each; for one right",
+            value: Some("NAME,.."),
+            help: "leave out these names, which are trusted, with their rows and columns",
         },
+        trace("write the judge's steps, 5 bytes each; for one right"),
         Choice {
             long: "--svg",
             short: None,
@@ -44,35 +50,42 @@ pub const COMMAND: Command = Command {
 };
 
 fn run(arguments: &Arguments, view: &View) -> Result<Answer, Failure> {
-    let input = input::read(&arguments.plain[0], arguments.value("--names"))?;
-    let content = match &input.content {
-        Ok(content) => content,
-        Err(refusal) => return Ok(super::refused(&input, *refusal, view)),
-    };
-    let verdicts: Vec<Verdict> = asked(&arguments.plain[1..], content)?
-        .into_iter()
-        .map(|right| verdict::judge(&input.file, &content.house, right))
-        .collect::<Result<_, _>>()?;
-    let mut answer = Answer {
-        status: verdicts.iter().map(status).max().unwrap_or(GOOD),
-        text: text::lines(content, &verdicts, view.style).into_bytes(),
-        json: vec![
-            ("input", input.json()),
-            ("answer", "judged".into()),
-            (
-                "verdicts",
-                verdicts
-                    .iter()
-                    .map(|one| json::verdict(content, one))
-                    .collect(),
-            ),
-        ],
-        ..Answer::default()
-    };
-    for (option, content) in outputs(arguments, &input, content, &verdicts)? {
-        put(&mut answer, &COMMAND, arguments, option, content);
-    }
-    Ok(answer)
+    about(arguments, view, |input, content| {
+        let without = match arguments.value("--without") {
+            Some(names) => content.words.name_numbers(names)?,
+            None => Vec::new(),
+        };
+        let verdicts: Vec<Verdict> = asked(&arguments.plain[1..], content)?
+            .into_iter()
+            .map(|right| verdict::judge(&input.file, &content.house, right, &without))
+            .collect::<Result<_, _>>()?;
+        if arguments.has("--trace") && verdicts.len() != 1 {
+            let advice = "name the right: tugcaphi judge TABLE RIGHT --trace OUT";
+            return Err(Failure::said(
+                "judge: --trace takes the steps of one right",
+                advice,
+            ));
+        }
+        let mut answer = Answer {
+            status: verdicts.iter().map(status).max().unwrap_or(GOOD),
+            text: text::lines(content, &verdicts, view.style).into_bytes(),
+            json: vec![("input", input.json())],
+            ..Answer::default()
+        };
+        answer
+            .json
+            .extend(json::fields(content, &without, &verdicts));
+        if let [verdict] = verdicts.as_slice() {
+            put_trace(&mut answer, &COMMAND, arguments, &verdict.trace);
+        }
+        put(&mut answer, &COMMAND, arguments, "--svg", || {
+            picture::svg(&input.path, content, &verdicts).into_bytes()
+        });
+        put(&mut answer, &COMMAND, arguments, "--report", || {
+            report::page(&input.path, content, &verdicts).into_bytes()
+        });
+        Ok(answer)
+    })
 }
 
 /// The rights that are given, or every right.
@@ -94,37 +107,4 @@ fn status(verdict: &Verdict) -> u8 {
         Ruling::Unsafe(_) => LEAK,
         Ruling::Refused(_) => REFUSED,
     }
-}
-
-/// What is to be written, if anything, by the option that asks for it.
-type Outputs = Vec<(&'static str, Option<Vec<u8>>)>;
-
-fn outputs(
-    arguments: &Arguments,
-    input: &Input,
-    content: &Content,
-    verdicts: &[Verdict],
-) -> Result<Outputs, Failure> {
-    let mut outputs = Vec::new();
-    if arguments.has("--trace") {
-        let [verdict] = verdicts else {
-            let advice = "name the right: tugcaphi judge TABLE RIGHT --trace OUT";
-            return Err(Failure::said(
-                "judge: --trace takes the steps of one right",
-                advice,
-            ));
-        };
-        // An empty trace would be replayed without a leak.
-        let refused = matches!(verdict.ruling, Ruling::Refused(_));
-        outputs.push(("--trace", (!refused).then(|| verdict.trace.clone())));
-    }
-    if arguments.has("--svg") {
-        let svg = picture::svg(&input.path, content, verdicts);
-        outputs.push(("--svg", Some(svg.into_bytes())));
-    }
-    if arguments.has("--report") {
-        let page = report::page(&input.path, content, verdicts);
-        outputs.push(("--report", Some(page.into_bytes())));
-    }
-    Ok(outputs)
 }

@@ -1,9 +1,9 @@
 //! `need`: can cells be held at the same moment, by which steps, and what the matrix is then.
 
-use super::{put, Answer, Command, View, FORCE, GOOD, NAMES, NEVER, REFUSED};
-use crate::arguments::{Arguments, Choice};
+use super::{about, put_trace, trace, Answer, Command, View, FORCE, GOOD, NAMES, NEVER, REFUSED};
+use crate::arguments::Arguments;
 use crate::failure::Failure;
-use crate::input::{self, Content};
+use crate::input::Content;
 use crate::limits::NEEDED_BYTES;
 use crate::need::{self, json, text, Outcome};
 use std::ffi::OsString;
@@ -22,43 +22,30 @@ pub const COMMAND: Command = Command {
     most: usize::MAX,
     options: &[
         NAMES,
-        Choice {
-            long: "--trace",
-            short: None,
-            value: Some("OUT"),
-            help: "write the steps, 5 bytes each; under never all that could be done",
-        },
+        trace("write the steps, 5 bytes each; under never all that could be done"),
         FORCE,
     ],
     run,
 };
 
 fn run(arguments: &Arguments, view: &View) -> Result<Answer, Failure> {
-    let input = input::read(&arguments.plain[0], arguments.value("--names"))?;
-    let content = match &input.content {
-        Ok(content) => content,
-        Err(refusal) => return Ok(super::refused(&input, *refusal, view)),
-    };
-    let list = list(&arguments.plain[1..], content)?;
-    let answered = need::ask(&input.file, &content.house, list)?;
-    let mut answer = Answer {
-        status: match answered.outcome {
-            Outcome::Held(_) => GOOD,
-            Outcome::Never(_) => NEVER,
-            Outcome::Refused(_) => REFUSED,
-        },
-        text: text::lines(content, &answered, view.style, view.columns).into_bytes(),
-        json: vec![("input", input.json())],
-        ..Answer::default()
-    };
-    answer.json.extend(json::fields(content, &answered));
-    if arguments.has("--trace") {
-        // An empty trace would be replayed without a refusal.
-        let refused = matches!(answered.outcome, Outcome::Refused(_));
-        let trace = (!refused).then_some(answered.trace);
-        put(&mut answer, &COMMAND, arguments, "--trace", trace);
-    }
-    Ok(answer)
+    about(arguments, view, |input, content| {
+        let list = list(&arguments.plain[1..], content)?;
+        let answered = need::ask(&input.file, &content.house, list)?;
+        let mut answer = Answer {
+            status: match answered.outcome {
+                Outcome::Held(_) => GOOD,
+                Outcome::Never(_) => NEVER,
+                Outcome::Refused(_) => REFUSED,
+            },
+            text: text::lines(content, &answered, view.style, view.columns).into_bytes(),
+            json: vec![("input", input.json())],
+            ..Answer::default()
+        };
+        answer.json.extend(json::fields(content, &answered));
+        put_trace(&mut answer, &COMMAND, arguments, &answered.trace);
+        Ok(answer)
+    })
 }
 
 /// The cells that the words say, three bytes each. Whether they are whole, few enough and there, the library says.

@@ -1,11 +1,11 @@
 //! `show`: a file or table as text, and its matrix as a grid.
 
-use super::{refused, Answer, Command, View, GOOD, NAMES};
+use super::{about, Answer, Command, View, GOOD, NAMES};
 use crate::arguments::Arguments;
 use crate::failure::Failure;
 use crate::grid;
 use crate::house::{Condition, Operation};
-use crate::input::{self, Content, Input};
+use crate::input::{Content, Input};
 use crate::json::Json;
 use crate::labels;
 use crate::table::syntax::Verb;
@@ -25,16 +25,14 @@ pub const COMMAND: Command = Command {
 };
 
 fn run(arguments: &Arguments, view: &View) -> Result<Answer, Failure> {
-    let input = input::read(&arguments.plain[0], arguments.value("--names"))?;
-    match &input.content {
-        Ok(content) => Ok(Answer {
+    about(arguments, view, |input, content| {
+        Ok(Answer {
             status: GOOD,
             text: text(content, view).into_bytes(),
-            json: json(&input, content),
+            json: json(input, content),
             ..Answer::default()
-        }),
-        Err(refusal) => Ok(refused(&input, *refusal, view)),
-    }
+        })
+    })
 }
 
 fn text(content: &Content, view: &View) -> String {

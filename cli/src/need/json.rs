@@ -5,7 +5,7 @@ use crate::input::Content;
 use crate::json::Json;
 use crate::labels;
 use crate::limits::STEP_BYTES;
-use crate::verdict::long_rules;
+use crate::verdict::json::refused;
 
 pub fn fields(content: &Content, answered: &Answered) -> Vec<(&'static str, Json)> {
     let words = &content.words;
@@ -19,7 +19,10 @@ pub fn fields(content: &Content, answered: &Answered) -> Vec<(&'static str, Json
             let fields = vec![("alone", alone.collect()), ("judge_steps", steps.into())];
             ("never", fields)
         }
-        Outcome::Refused(refusal) => ("refused", refused(content, &answered.list, *refusal)),
+        Outcome::Refused(refusal) => {
+            let why = text::why(content, &answered.list, *refusal);
+            ("refused", refused(content, *refusal, why))
+        }
     };
     let mut fields = vec![("answer", answer.into()), ("wanted", wanted)];
     fields.extend(rest);
@@ -35,15 +38,4 @@ fn held(content: &Content, way: &Way) -> Vec<(&'static str, Json)> {
         ("cells", labels::cells(words, &way.after)),
     ];
     vec![("steps", steps.collect()), ("after", Json::Object(after))]
-}
-
-fn refused(content: &Content, list: &[u8], refusal: u8) -> Vec<(&'static str, Json)> {
-    let mut fields = crate::refused::fields(refusal);
-    fields.push(("detail", text::why(content, list, refusal).into()));
-    if refusal == 22 {
-        let rules = long_rules(&content.house).into_iter();
-        let rules = rules.map(|rule| labels::rule(&content.words, rule));
-        fields.push(("rules", rules.collect()));
-    }
-    fields
 }

@@ -1,7 +1,7 @@
 //! Answers to a press for people.
 
 use super::{cells, Answered, Outcome, Way};
-use crate::count::count;
+use crate::count::{all_of, count};
 use crate::grid;
 use crate::input::Content;
 use crate::machine::Held;
@@ -100,10 +100,7 @@ fn listed(words: &Words, cells: &[Held]) -> String {
             all.push(one);
         }
     }
-    match all.as_slice() {
-        [most @ .., last] if !most.is_empty() => format!("{} and {last}", most.join(", ")),
-        _ => all.concat(),
-    }
+    all_of(&all)
 }
 
 /// A step, or a line of the grid.

@@ -23,7 +23,8 @@ pub fn panel(content: &Content, verdict: &Verdict, whole: bool) -> Canvas {
         Ruling::Safe(cells) => (&[][..], Aim::Held(usize::from(verdict.right), cells)),
         Ruling::Refused(_) => (&[][..], Aim::Nothing),
     };
-    let (drawn, part) = matrix(content, steps, &aim);
+    let judged = content.without(verdict.left_out());
+    let (drawn, part) = matrix(&judged, steps, &aim);
     canvas.place(PAD, canvas.height, &drawn);
     canvas.height += drawn.height + PAD;
     canvas.widen(drawn.width);

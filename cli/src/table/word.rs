@@ -101,6 +101,19 @@ pub fn quoted(text: &str) -> String {
     format!("\"{}\"", text.replace('\\', "\\\\").replace('"', "\\\""))
 }
 
+/// The word that a quote was opened for, and what stands behind the closing one; None if there is none.
+pub fn unquoted(rest: &str) -> Option<(String, &str)> {
+    let mut text = String::new();
+    let mut characters = rest.chars();
+    loop {
+        match characters.next()? {
+            '"' => return Some((text, characters.as_str())),
+            '\\' => text.push(characters.next()?),
+            character => text.push(character),
+        }
+    }
+}
+
 /// The number that a text of digits alone spells.
 pub fn digits(text: &str) -> Option<usize> {
     let all = !text.is_empty() && text.bytes().all(|byte| byte.is_ascii_digit());

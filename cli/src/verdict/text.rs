@@ -1,7 +1,7 @@
 //! Verdicts for people.
 
-use super::{obstacle, Leak, Ruling, Verdict};
-use crate::count::count;
+use super::{left_out, Leak, Ruling, Verdict};
+use crate::count::{all_of, count, one_of};
 use crate::input::Content;
 use crate::refusals;
 use crate::story::{self, Done, Jobs};
@@ -15,7 +15,10 @@ pub fn lines(content: &Content, verdicts: &[Verdict], style: Style) -> String {
         .map(|one| content.words.right(usize::from(one.right)));
     let rights: Vec<String> = rights.collect();
     let margin = rights.iter().map(|right| width(right)).max().unwrap_or(0);
-    let mut text = String::new();
+    let mut text = match left_out(verdicts) {
+        [] => String::new(),
+        names => format!("{}\n", without(&content.words, names)),
+    };
     for (verdict, right) in verdicts.iter().zip(&rights) {
         let word = match &verdict.ruling {
             Ruling::Safe(_) => style.good("SAFE   "),
@@ -41,28 +44,46 @@ pub fn lines(content: &Content, verdicts: &[Verdict], style: Style) -> String {
 /// What a verdict comes to, in one line.
 pub fn summary(content: &Content, verdict: &Verdict) -> String {
     match &verdict.ruling {
-        Ruling::Safe(cells) => format!(
-            "{}; no run of the rules enters it into a cell that lacks it",
-            holders(cells.len())
-        ),
+        Ruling::Safe(cells) => {
+            let never = "no run of the rules enters it into a cell that lacks it";
+            match verdict.left_out() {
+                [] => format!("{}; {never}", holders(cells.len(), "")),
+                names => {
+                    let holders = holders(cells.len(), " of the others");
+                    let any = one_of(&words(&content.words, names));
+                    format!("{holders}; {never}, as long as no rule is run with {any}")
+                }
+            }
+        }
         Ruling::Unsafe(leak) => {
             let steps = count(leak.steps.len(), "step");
             format!("{steps}, one way of perhaps many:")
         }
         Ruling::Refused(refusal) => {
             let meaning = refusals::of(*refusal).meaning;
-            let why = obstacle(&content.house, &content.words, *refusal);
+            let why = verdict.why(content);
             let why = why.map_or(String::new(), |why| format!(": {why}"));
             format!("{refusal}: {meaning}{why}")
         }
     }
 }
 
-fn holders(cells: usize) -> String {
+/// Which names are left out.
+pub fn without(words: &Words, names: &[u8]) -> String {
+    let names = all_of(&self::words(words, names));
+    format!("Left out, with row and column: {names}")
+}
+
+fn words(words: &Words, names: &[u8]) -> Vec<String> {
+    let names = names.iter();
+    names.map(|&name| words.name(usize::from(name))).collect()
+}
+
+fn holders(cells: usize, of: &str) -> String {
     match cells {
-        0 => "no cell holds it yet".to_string(),
-        1 => "1 cell holds it already".to_string(),
-        n => format!("{n} cells hold it already"),
+        0 => format!("no cell{of} holds it yet"),
+        1 => format!("1 cell{of} holds it already"),
+        n => format!("{n} cells{of} hold it already"),
     }
 }
 

@@ -14,7 +14,7 @@ use Rattle.protection.specs.Limits.{names, rights}
 use Rattle.protection.specs.State.{State}
 use Rattle.protection.specs.Command.{System, Call}
 use Rattle.protection.specs.Execution.{takeOut}
-use Rattle.protection.specs.Judge.{firstIn, lowestAbsent, takes, returns, firstCall, both, pairAt, isEmpty, closing}
+use Rattle.protection.specs.Judge.{firstIn, lowestFree, takes, returns, firstCall, both, pairAt, isEmpty, closing}
 use Rattle.matrix.specs.Bytes.{view, inside, rightsIn}
 use Rattle.matrix.specs.Canonical.{Canonical}
 use Rattle.matrix.specs.Matrices.{stateOf}
@@ -41,7 +41,10 @@ held-is g ks cs K s o q ls lo = go (inside ks s o) (λ h. K .outside s o ls lo h
     go true h = refl
     go false h = sym (ap (λ (x : ℕ). has x q) (h tt) ∙ has-none q)
 
-module _ (p : Policy) (m : Matrix) (t : Tables) (r : ℕ) where
+module _ (p : Policy) (reserved : ℕ) (m : Matrix) (t : Tables) (r : ℕ) where
+  abbrev R : ℕ → Bool
+  R = has reserved
+
   abbrev S : System
   S = systemOf p
 
@@ -49,19 +52,19 @@ module _ (p : Policy) (m : Matrix) (t : Tables) (r : ℕ) where
   m₀ = stateOf (p .matrix)
 
   abbrev pub hasPair : ℕ → Bool
-  hasPair c = not (isEmpty (pairAt S r m₀ (stateOf m) (c / 32) (c % 32)))
+  hasPair c = not (isEmpty (pairAt S R r m₀ (stateOf m) (c / 32) (c % 32)))
 
   abbrev pub firstPair : ℕ
   firstPair = firstIn hasPair 1024 0
 
-  closing-at : (c : ℕ) → c ≡ firstPair → closing S r m₀ (stateOf m) ≡ elim (ltb c 1024) [
-    | true ↦ pairAt S r m₀ (stateOf m) (c / 32) (c % 32)
+  closing-at : (c : ℕ) → c ≡ firstPair → closing S R r m₀ (stateOf m) ≡ elim (ltb c 1024) [
+    | true ↦ pairAt S R r m₀ (stateOf m) (c / 32) (c % 32)
     | false ↦ []
   ]
-  closing-at c e = ap (λ (k : ℕ). elim (ltb k 1024) [ true ↦ pairAt S r m₀ (stateOf m) (k / 32) (k % 32) | false ↦ [] ]) (sym e)
+  closing-at c e = ap (λ (k : ℕ). elim (ltb k 1024) [ true ↦ pairAt S R r m₀ (stateOf m) (k / 32) (k % 32) | false ↦ [] ]) (sym e)
 
-  closing-none : (c : ℕ) → 1024 ≤ c → c ≡ firstPair → [] ≡ closing S r m₀ (stateOf m)
-  closing-none c l e = ap (λ (b : Bool). elim b [ true ↦ pairAt S r m₀ (stateOf m) (c / 32) (c % 32) | false ↦ [] ]) (sym (le-ltb c 1024 l)) ∙ sym (closing-at c e)
+  closing-none : (c : ℕ) → 1024 ≤ c → c ≡ firstPair → [] ≡ closing S R r m₀ (stateOf m)
+  closing-none c l e = ap (λ (b : Bool). elim b [ true ↦ pairAt S R r m₀ (stateOf m) (c / 32) (c % 32) | false ↦ [] ]) (sym (le-ltb c 1024 l)) ∙ sym (closing-at c e)
 
   -- a start cell by its byte
   start-cell : PolicyFits p → (c : ℕ) → c < 1024 → (b : Bool) → b ≡ has (getD (p .matrix .cells) c 0) r → m₀ .cell (c / 32) (c % 32) r ≡ b
@@ -69,10 +72,10 @@ module _ (p : Policy) (m : Matrix) (t : Tables) (r : ℕ) where
       let z : names * (c / 32) + c % 32 ≡ c = omega arith in
       held-is (p .rights) (p .matrix .kinds) (p .matrix .cells) (F .matrix-fits) (c / 32) (c % 32) r (omega arith) (omega arith) ∙ ap (λ (k : ℕ). has (getD (p .matrix .cells) k 0) r) z ∙ sym e
 
-  pair-by : (s o : ℕ) (b : Bool) → m₀ .cell s o r ≡ b → pairAt S r m₀ (stateOf m) s o ≡ elim b [ true ↦ bothAt S r (lowestAbsent (stateOf m)) (stateOf m) s o | false ↦ [] ]
+  pair-by : (s o : ℕ) (b : Bool) → m₀ .cell s o r ≡ b → pairAt S R r m₀ (stateOf m) s o ≡ elim b [ true ↦ bothAt S r (lowestFree R (stateOf m)) (stateOf m) s o | false ↦ [] ]
   unfolding bothAt
   pair-by s o b e = ap (λ (u : Bool). elim u [
-    | true ↦ both (firstCall (takes S (stateOf m) r s o) (lowestAbsent (stateOf m)) 0 (S .commands)) (firstCall (returns S (stateOf m) r s o) (lowestAbsent (stateOf m)) 0 (S .commands))
+    | true ↦ both (firstCall (takes S (stateOf m) r s o) (lowestFree R (stateOf m)) 0 (S .commands)) (firstCall (returns S (stateOf m) r s o) (lowestFree R (stateOf m)) 0 (S .commands))
     | false ↦ []
   ]) e
 
@@ -85,15 +88,15 @@ module _ (p : Policy) (m : Matrix) (t : Tables) (r : ℕ) where
       pub takes-by : ConcernedBy p false r taking
       pub returns-by : ConcernedBy p true r returning
       pub asked-by : AskedBy p asks
-      pub name : n ≡ lowestAbsent (stateOf m)
+      pub name : n ≡ lowestFree R (stateOf m)
       pub within : c ≤ 1024
       pub rest : firstIn hasPair (1024 - c) c ≡ firstPair
 
-    pub cells-start : Closable p r m t → start ≡ p .matrix → ConcernedBy p false r taking → ConcernedBy p true r returning → AskedBy p asks → (n : ℕ) → n ≡ lowestAbsent (view (m .kinds) []) → Cells n 0
-    cells-start K d x y A n e = record { asked = K; start-is = d; takes-by = x; returns-by = y; asked-by = A; name = e ∙ lowest-kinds (m .kinds) (m .cells); within = omega arith; rest = refl }
+    pub cells-start : Closable p r m t → start ≡ p .matrix → ConcernedBy p false r taking → ConcernedBy p true r returning → AskedBy p asks → (n : ℕ) → n ≡ lowestFree R (view (m .kinds) []) → Cells n 0
+    cells-start K d x y A n e = record { asked = K; start-is = d; takes-by = x; returns-by = y; asked-by = A; name = e ∙ lowest-kinds R (m .kinds) (m .cells); within = omega arith; rest = refl }
 
     module _ (n c : ℕ) (K : Cells n c) where
-      pub cells-end : 1024 ≤ c → (z : Pair) → pairOf z ≡ [] → pairOf z ≡ closing S r m₀ (stateOf m)
+      pub cells-end : 1024 ≤ c → (z : Pair) → pairOf z ≡ [] → pairOf z ≡ closing S R r m₀ (stateOf m)
       cells-end l z e = e ∙ closing-none c l (first-end hasPair 1024 firstPair c l (K .rest))
 
       pub cells-right : r < rights
@@ -101,7 +104,7 @@ module _ (p : Policy) (m : Matrix) (t : Tables) (r : ℕ) where
 
       module _ (l : c < 1024) where
         pub cells-asked : Closing p r n (c / 32) (c % 32) m t
-        cells-asked = record { closable = K .asked; name = rw (K .name) (lowest-small (stateOf m)); row = omega arith; column = omega arith }
+        cells-asked = record { closable = K .asked; name = rw (K .name) (lowest-small R (stateOf m)); row = omega arith; column = omega arith }
 
         onward : hasPair c ≡ false → Cells n (c + 1)
         onward h = record { asked = K .asked; start-is = K .start-is; takes-by = K .takes-by; returns-by = K .returns-by; asked-by = K .asked-by; name = K .name; within = omega arith; rest = first-next hasPair 1024 firstPair c h l (K .rest) }
@@ -114,15 +117,15 @@ module _ (p : Policy) (m : Matrix) (t : Tables) (r : ℕ) where
           cells-lacks f = onward (ap (λ (w : List Call). not (isEmpty w)) (pair-by (c / 32) (c % 32) false (start-cell (K .asked .fits) c l b byte ∙ f)))
 
           module _ (f : b ≡ true) (z : Pair) (e : pairOf z ≡ bothAt S r n (stateOf m) (c / 32) (c % 32)) (u : Bool) (g : u ≡ not (isEmpty (pairOf z))) where
-            this : pairOf z ≡ pairAt S r m₀ (stateOf m) (c / 32) (c % 32)
+            this : pairOf z ≡ pairAt S R r m₀ (stateOf m) (c / 32) (c % 32)
             this = e ∙ ap (λ (k : ℕ). bothAt S r k (stateOf m) (c / 32) (c % 32)) (K .name) ∙ sym (pair-by (c / 32) (c % 32) true (start-cell (K .asked .fits) c l b byte ∙ f))
 
             has-is : hasPair c ≡ u
             has-is = ap (λ (w : List Call). not (isEmpty w)) (sym this) ∙ sym g
 
-            pub cells-found : u ≡ true → pairOf z ≡ closing S r m₀ (stateOf m)
+            pub cells-found : u ≡ true → pairOf z ≡ closing S R r m₀ (stateOf m)
             cells-found h = this
-                ∙ ap (λ (b : Bool). elim b [ true ↦ pairAt S r m₀ (stateOf m) (c / 32) (c % 32) | false ↦ [] ]) (sym (lt-ltb c 1024 l))
+                ∙ ap (λ (b : Bool). elim b [ true ↦ pairAt S R r m₀ (stateOf m) (c / 32) (c % 32) | false ↦ [] ]) (sym (lt-ltb c 1024 l))
                 ∙ sym (closing-at c (first-here hasPair 1024 firstPair c (has-is ∙ h) l (K .rest)))
 
             pub cells-next : u ≡ false → Cells n (c + 1)
@@ -130,20 +133,20 @@ module _ (p : Policy) (m : Matrix) (t : Tables) (r : ℕ) where
 
   -- ---- without a command that deletes the right, or one that enters it
   module _ (F : PolicyFits p) (single : SingleSteps p) where
-    no-pairs : ((s o : ℕ) → bothAt S r (lowestAbsent (stateOf m)) (stateOf m) s o ≡ []) → [] ≡ closing S r m₀ (stateOf m)
+    no-pairs : ((s o : ℕ) → bothAt S r (lowestFree R (stateOf m)) (stateOf m) s o ≡ []) → [] ≡ closing S R r m₀ (stateOf m)
     no-pairs h = closing-none 1024 (omega arith) (none-from hasPair (λ c. none (c / 32) (c % 32) (m₀ .cell (c / 32) (c % 32) r) refl) 1024 0 (omega arith))
       where
-        none : (s o : ℕ) (b : Bool) → m₀ .cell s o r ≡ b → not (isEmpty (pairAt S r m₀ (stateOf m) s o)) ≡ false
+        none : (s o : ℕ) (b : Bool) → m₀ .cell s o r ≡ b → not (isEmpty (pairAt S R r m₀ (stateOf m) s o)) ≡ false
         none s o true e = ap (λ (w : List Call). not (isEmpty w)) (pair-by s o true e ∙ h s o)
         none s o false e = ap (λ (w : List Call). not (isEmpty w)) (pair-by s o false e)
 
-    pub none-taken : (which : ℕ) → ConcernedBy p false r which → which ≡ 0 → (z : Pair) → pairOf z ≡ [] → pairOf z ≡ closing S r m₀ (stateOf m)
+    pub none-taken : (which : ℕ) → ConcernedBy p false r which → which ≡ 0 → (z : Pair) → pairOf z ≡ [] → pairOf z ≡ closing S R r m₀ (stateOf m)
     unfolding bothAt firstTouching
-    none-taken which W e z d = d ∙ no-pairs (λ s o. ap (λ (x : Option Call). both x (firstCall (returns S (stateOf m) r s o) (lowestAbsent (stateOf m)) 0 (S .commands)))
-        (none-covered p (stateOf m) (lowestAbsent (stateOf m)) r s o false which (concerned-covers p F single false (stateOf m) r s o (lowestAbsent (stateOf m)) (lowest-small (stateOf m)) which W) e))
+    none-taken which W e z d = d ∙ no-pairs (λ s o. ap (λ (x : Option Call). both x (firstCall (returns S (stateOf m) r s o) (lowestFree R (stateOf m)) 0 (S .commands)))
+        (none-covered p (stateOf m) (lowestFree R (stateOf m)) r s o false which (concerned-covers p F single false (stateOf m) r s o (lowestFree R (stateOf m)) (lowest-small R (stateOf m)) which W) e))
 
-    pub none-returned : (which : ℕ) → ConcernedBy p true r which → which ≡ 0 → (z : Pair) → pairOf z ≡ [] → pairOf z ≡ closing S r m₀ (stateOf m)
+    pub none-returned : (which : ℕ) → ConcernedBy p true r which → which ≡ 0 → (z : Pair) → pairOf z ≡ [] → pairOf z ≡ closing S R r m₀ (stateOf m)
     unfolding bothAt firstTouching
-    none-returned which W e z d = d ∙ no-pairs (λ s o. ap (both (firstCall (takes S (stateOf m) r s o) (lowestAbsent (stateOf m)) 0 (S .commands)))
-        (none-covered p (takeOut (stateOf m) r s o) (lowestAbsent (stateOf m)) r s o true which (concerned-covers p F single true (takeOut (stateOf m) r s o) r s o (lowestAbsent (stateOf m)) (lowest-small (stateOf m)) which W) e)
-        ∙ both-none (firstCall (takes S (stateOf m) r s o) (lowestAbsent (stateOf m)) 0 (S .commands)))
+    none-returned which W e z d = d ∙ no-pairs (λ s o. ap (both (firstCall (takes S (stateOf m) r s o) (lowestFree R (stateOf m)) 0 (S .commands)))
+        (none-covered p (takeOut (stateOf m) r s o) (lowestFree R (stateOf m)) r s o true which (concerned-covers p F single true (takeOut (stateOf m) r s o) r s o (lowestFree R (stateOf m)) (lowest-small R (stateOf m)) which W) e)
+        ∙ both-none (firstCall (takes S (stateOf m) r s o) (lowestFree R (stateOf m)) 0 (S .commands)))

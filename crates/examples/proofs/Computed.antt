@@ -2,7 +2,7 @@
 use Rattle.cases.specs.Cases.{iterate, all}
 use Rattle.rights.specs.Rights.{number}
 use Rattle.protection.specs.Size.{count}
-use Rattle.protection.specs.Judge.{lowestAbsent, rounds, judge}
+use Rattle.protection.specs.Judge.{lowestFree, rounds, judgeBeside}
 use Rattle.matrix.specs.Bytes.{kindsOf, cellsOf}
 use Rattle.matrix.specs.Refusals.{cellFits, matrixRefusal}
 use Rattle.layout.specs.File.{startOf}
@@ -15,8 +15,9 @@ use Rattle.policy.specs.Contents.{commandTable, policyOf, written}
 use Rattle.trace.specs.Replays.{replayFrom}
 use Rattle.safety.specs.Judgement.{callerRefusal}
 use Rattle.needs.specs.Needed.{listRefusal}
+use Rattle.parts.specs.Parts.{listedIn, trustedRefusal}
 use Rattle.listing.specs.Listing.{digits}
 
 unfoldable pub computed : Unit {0}
-unfolding stepRead iterate all number lowestAbsent rounds count judge kindsOf cellsOf cellFits matrixRefusal startOf headerRefusal pairsRefusal sizesRefusal conditionFits operationFits commandRefusal commandOf commandsRefusal commandTable policyOf written replayFrom callerRefusal listRefusal digits
+unfolding stepRead iterate all number lowestFree rounds count judgeBeside kindsOf cellsOf cellFits matrixRefusal startOf headerRefusal pairsRefusal sizesRefusal conditionFits operationFits commandRefusal commandOf commandsRefusal commandTable policyOf written replayFrom callerRefusal listRefusal listedIn trustedRefusal digits
 computed = tt

@@ -19,16 +19,17 @@ use Rattle.trace.specs.Traces.{calls, stepsIn}
 use Rattle.trace.specs.Replays.{replayFrom, fileReplay}
 use Rattle.trace.specs.declared.Replay.{Replay}
 use Rattle.trace.specs.declared.Replay.the-variants.{NoLeak, Leak, Refused as RefusedAt}
-use Rattle.safety.specs.Judgement.{callerRefusal, judgeRefusal, fileVerdict, judgementOf, fileJudgement, filled, fileBuffer}
+use Rattle.safety.specs.Judgement.{callerRefusal, judgeRefusal, fileVerdict, judgementBy, fileJudgement, filled, bufferBy, fileBuffer}
 use Rattle.safety.specs.declared.Judgement.{Judgement}
 use Rattle.safety.specs.declared.Judgement.the-variants.{Refused, Safe, Unsafe}
 use Rattle.questions.specs.Refusals.{sizeRefusal}
 use Rattle.needs.specs.Needed.{listRefusal, needRefusal, fileRounds, needOf, fileNeed, needBuffer}
 use Rattle.needs.specs.declared.Need.{Need}
 use Rattle.needs.specs.declared.Need.the-variants.{Refused as NeedRefused, Held, Never}
+use Rattle.parts.specs.Parts.{trustedRefusal, partRefusal, partVerdict, partJudgement, partBuffer}
 use Rattle.listing.specs.Listing.{printed, bufferBytes, listing}
 use Rattle.examples.specs.Build.{joined}
-use Rattle.examples.specs.Cases.{Case, checks, runs, replays, judges, needs, prints, Holds, Row, AllHold}
+use Rattle.examples.specs.Cases.{Case, checks, runs, replays, judges, judgesPart, needs, prints, Holds, Row, AllHold}
 use Rattle.examples.proofs.Walk.{walkedRefusal, refusal-walked}
 
 -- ---- equality, as a test
@@ -129,10 +130,19 @@ abbrev judgeRefusalAt : ℕ → List ℕ → ℕ → ℕ → ℕ
 judgeRefusalAt z f r n = orElse z (callerRefusal (fileSystem f) (fileState f) r n)
 
 abbrev judgementAt : ℕ → List ℕ → ℕ → ℕ → Judgement
-judgementAt z f r n = pick (eqb (judgeRefusalAt z f r n) 0) (judgementOf (fileVerdict f r)) (Refused (judgeRefusalAt z f r n))
+judgementAt z f r n = judgementBy (judgeRefusalAt z f r n) (fileVerdict f r)
 
 abbrev bufferAt : ℕ → List ℕ → ℕ → List ℕ → List ℕ
-bufferAt z f r b = pick (eqb (judgeRefusalAt z f r (length b)) 0) (filled (fileVerdict f r .steps) b) b
+bufferAt z f r b = bufferBy (judgeRefusalAt z f r (length b)) (fileVerdict f r) b
+
+abbrev partRefusalAt : ℕ → List ℕ → ℕ → List ℕ → ℕ → ℕ
+partRefusalAt z f r l n = orElse (judgeRefusalAt z f r n) (trustedRefusal (fileState f) l)
+
+abbrev partJudgementAt : ℕ → List ℕ → ℕ → List ℕ → ℕ → Judgement
+partJudgementAt z f r l n = judgementBy (partRefusalAt z f r l n) (partVerdict f r l)
+
+abbrev partBufferAt : ℕ → List ℕ → ℕ → List ℕ → List ℕ → List ℕ
+partBufferAt z f r l b = bufferBy (partRefusalAt z f r l (length b)) (partVerdict f r l) b
 
 abbrev needRefusalAt : ℕ → List ℕ → List ℕ → ℕ → ℕ
 needRefusalAt z f l n = orElse z (orElse (sizeRefusal (fileSystem f) (fileState f) n) (listRefusal (fileSystem f) (fileState f) l))
@@ -157,6 +167,7 @@ fileIn (checks f n) = f
 fileIn (runs f x n f') = f
 fileIn (replays f t r answer) = f
 fileIn (judges f r b answer b') = f
+fileIn (judgesPart f r l b answer b') = f
 fileIn (needs f l b answer b') = f
 fileIn (prints input out) = behind input
 
@@ -165,6 +176,7 @@ testAt z (checks f n) = eqb n z
 testAt z (runs f x n f') = eqb n (codeAt z f x) && sameBytes f' (fileAt z f x)
 testAt z (replays f t r answer) = sameReplay answer (replayAt z f t r)
 testAt z (judges f r b answer b') = sameJudgement answer (judgementAt z f r (length b)) && sameBytes b' (bufferAt z f r b)
+testAt z (judgesPart f r l b answer b') = sameJudgement answer (partJudgementAt z f r l (length b)) && sameBytes b' (partBufferAt z f r l b)
 testAt z (needs f l b answer b') = sameNeed answer (needAt z f l (length b)) && sameBytes b' (needBufferAt z f l b)
 testAt z (prints input out) = sameBytes out (listingAt z input)
 
@@ -174,7 +186,7 @@ printed-is [] = refl
 printed-is (r ∷ f) = refl
 
 holds : (c : Case) → T (testAt (refusal (fileIn c)) c) → Holds c
-unfolding runCode runFile fileReplay judgeRefusal fileJudgement fileBuffer needRefusal fileNeed needBuffer
+unfolding runCode runFile fileReplay judgeRefusal fileJudgement fileBuffer partRefusal partJudgement partBuffer needRefusal fileNeed needBuffer
 holds (checks f n) t = eqb→eq n (refusal f) t
 holds (runs f x n f') t =
     let a = eqb n (codeAt (refusal f) f x) in
@@ -185,6 +197,10 @@ holds (judges f r b answer b') t =
     let c = sameJudgement answer (judgementAt (refusal f) f r (length b)) in
     let d = sameBytes b' (bufferAt (refusal f) f r b) in
     record { answer-is = same-judgement answer (judgementAt (refusal f) f r (length b)) (and-left c d t); buffer-is = same-bytes b' (bufferAt (refusal f) f r b) (and-right c d t) }
+holds (judgesPart f r l b answer b') t =
+    let c = sameJudgement answer (partJudgementAt (refusal f) f r l (length b)) in
+    let d = sameBytes b' (partBufferAt (refusal f) f r l b) in
+    record { answer-is = same-judgement answer (partJudgementAt (refusal f) f r l (length b)) (and-left c d t); buffer-is = same-bytes b' (partBufferAt (refusal f) f r l b) (and-right c d t) }
 holds (needs f l b answer b') t =
     let c = sameNeed answer (needAt (refusal f) f l (length b)) in
     let d = sameBytes b' (needBufferAt (refusal f) f l b) in

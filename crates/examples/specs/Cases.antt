@@ -13,6 +13,7 @@ use Rattle.safety.specs.Judgement.{fileJudgement, fileBuffer}
 use Rattle.safety.specs.declared.Judgement.{Judgement}
 use Rattle.needs.specs.Needed.{fileNeed, needBuffer}
 use Rattle.needs.specs.declared.Need.{Need}
+use Rattle.parts.specs.Parts.{partJudgement, partBuffer}
 use Rattle.listing.specs.Listing.{listing}
 
 pub data Case : Type 0 where
@@ -24,6 +25,8 @@ pub data Case : Type 0 where
   replays : List ℕ → List ℕ → ℕ → Replay → Case
   -- the judge is lent the file, the right and the buffer; its answer, and the buffer after it
   judges : List ℕ → ℕ → List ℕ → Judgement → List ℕ → Case
+  -- the same with a list of names that are left out, behind the right
+  judgesPart : List ℕ → ℕ → List ℕ → List ℕ → Judgement → List ℕ → Case
   -- a need is lent the file, the list of cells and the buffer; its answer, and the buffer after it
   needs : List ℕ → List ℕ → List ℕ → Need → List ℕ → Case
   -- what the desk program reads, and what it prints
@@ -39,6 +42,11 @@ pub record FileJudged (f : List ℕ) (r : ℕ) (b : List ℕ) (answer : Judgemen
   pub answer-is : answer ≡ fileJudgement f r (length b)
   pub buffer-is : b' ≡ fileBuffer f r b
 
+-- the two equations of the contract for a part; the rest is one theorem for every input
+pub record FilePartJudged (f : List ℕ) (r : ℕ) (l b : List ℕ) (answer : Judgement) (b' : List ℕ) : Type 0 where
+  pub answer-is : answer ≡ partJudgement f r l (length b)
+  pub buffer-is : b' ≡ partBuffer f r l b
+
 -- the two equations of a need's contract; the rest is one theorem for every input
 pub record FileNeeded (f l b : List ℕ) (answer : Need) (b' : List ℕ) : Type 0 where
   pub answer-is : answer ≡ fileNeed f l (length b)
@@ -49,6 +57,7 @@ Holds (checks f n) = n ≡ refusal f
 Holds (runs f x n f') = FileRan f x n f'
 Holds (replays f t r answer) = answer ≡ fileReplay f t r
 Holds (judges f r b answer b') = FileJudged f r b answer b'
+Holds (judgesPart f r l b answer b') = FilePartJudged f r l b answer b'
 Holds (needs f l b answer b') = FileNeeded f l b answer b'
 Holds (prints input out) = out ≡ listing input
 

@@ -6,4 +6,5 @@ pub mod Runs
 pub mod Replays
 pub mod Judgements
 pub mod Needs
+pub mod Trusted
 pub mod Table

@@ -14,16 +14,17 @@ use Rattle.safety.specs.declared.Judgement.the-variants.{Refused, Safe, Unsafe}
 use Rattle.needs.specs.declared.Need.{Need}
 use Rattle.needs.specs.declared.Need.the-variants.{Refused as NeedRefused, Held, Never}
 use Rattle.examples.specs.Build.{joined}
-use Rattle.examples.specs.Cases.{Case, checks, runs, replays, judges, needs, prints, Row, rowNames, AllHold}
+use Rattle.examples.specs.Cases.{Case, checks, runs, replays, judges, judgesPart, needs, prints, Row, rowNames, AllHold}
 use Rattle.examples.specs.Slips.{slipCases}
 use Rattle.examples.specs.Files.{headerCases, matrixCases, ruleCases}
 use Rattle.examples.specs.Runs.{refusedCases, doneCases}
 use Rattle.examples.specs.Replays.{replayCases}
 use Rattle.examples.specs.Judgements.{callerCases, roundCases, createCases, closingCases}
 use Rattle.examples.specs.Needs.{needCases}
+use Rattle.examples.specs.Trusted.{trustedCases}
 
 abbrev pub parts : List (List Row)
-parts = slipCases ∷ headerCases ∷ matrixCases ∷ ruleCases ∷ refusedCases ∷ doneCases ∷ replayCases ∷ callerCases ∷ roundCases ∷ createCases ∷ closingCases ∷ needCases ∷ []
+parts = slipCases ∷ headerCases ∷ matrixCases ∷ ruleCases ∷ refusedCases ∷ doneCases ∷ replayCases ∷ callerCases ∷ roundCases ∷ createCases ∷ closingCases ∷ needCases ∷ trustedCases ∷ []
 
 abbrev pub table : List Row
 table = joined parts
@@ -227,11 +228,36 @@ required =
     "need: held after a create" ∷
     "need: never, one of two cells cannot come" ∷
     "need: never, no rule" ∷
+    "part: 5 before 21" ∷
+    "part: 21, right g, before 22" ∷
+    "part: 22, before 23" ∷
+    "part: 23, 31 names, one of them left out" ∷
+    "part: 24, 339 bytes, where the part asks for 175" ∷
+    "part: 24, before 42" ∷
+    "part: 340 bytes" ∷
+    "part: 42, an absent name" ∷
+    "part: 42, name 32" ∷
+    "part: 42, name 255" ∷
+    "part: name 31" ∷
+    "part: 42, a name twice" ∷
+    "part: 42, a name twice, another between" ∷
+    "part: 42, an absent name behind others" ∷
+    "part: an empty list" ∷
+    "part: the office grants, without its row safe" ∷
+    "part: without its column safe" ∷
+    "part: all names left out" ∷
+    "part: unsafe without the office" ∷
+    "part: what others hold stays" ∷
+    "part: a created name is none left out" ∷
+    "part: two created names beside two left out" ∷
+    "part: given back in a cell of the whole" ∷
+    "part: not in one of the part" ∷
+    "part: given back in a cell of the part" ∷
     []
 
 -- every refusal of document 01 and of document 02 as far as it is built is the answer of some row; 13 is given by nobody since document 02, C-11
 abbrev pub refusals : List ℕ
-refusals = 1 ∷ 2 ∷ 3 ∷ 4 ∷ 5 ∷ 6 ∷ 7 ∷ 8 ∷ 9 ∷ 11 ∷ 12 ∷ 14 ∷ 15 ∷ 21 ∷ 22 ∷ 23 ∷ 24 ∷ 31 ∷ 41 ∷ []
+refusals = 1 ∷ 2 ∷ 3 ∷ 4 ∷ 5 ∷ 6 ∷ 7 ∷ 8 ∷ 9 ∷ 11 ∷ 12 ∷ 14 ∷ 15 ∷ 21 ∷ 22 ∷ 23 ∷ 24 ∷ 31 ∷ 41 ∷ 42 ∷ []
 
 abbrev pub replayRefused : Replay → ℕ
 replayRefused NoLeak = 0
@@ -254,6 +280,7 @@ refusedBy (checks f n) = n
 refusedBy (runs f x n f') = n
 refusedBy (replays f t r answer) = replayRefused answer
 refusedBy (judges f r b answer b') = judgementRefused answer
+refusedBy (judgesPart f r l b answer b') = judgementRefused answer
 refusedBy (needs f l b answer b') = needRefusedBy answer
 refusedBy (prints input out) = 0
 

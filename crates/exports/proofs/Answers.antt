@@ -6,7 +6,7 @@ use mathlib.Core.Path.{_≡_, refl, sym, ap, _∙_, subst}
 use Rattle.trace.specs.declared.Replay.{Replay}
 use Rattle.trace.specs.declared.Replay.the-variants.{NoLeak, Leak, Refused}
 use Rattle.safety.specs.Demand3.{stepsWritten}
-use Rattle.safety.specs.Judgement.{fileJudgement, judgementCode, Judged}
+use Rattle.safety.specs.Judgement.{judgementCode, Judged}
 use Rattle.safety.specs.declared.Judgement.{Judgement}
 use Rattle.safety.specs.declared.Judgement.the-variants.{Refused as Refuses, Safe, Unsafe}
 use Rattle.exports.specs.Replay.{ReplayAnswer}
@@ -14,6 +14,8 @@ use Rattle.needs.specs.Needed.{fileNeed, needCode, stepsTaken, Needed}
 use Rattle.needs.specs.declared.Need.{Need}
 use Rattle.needs.specs.declared.Need.the-variants.{Refused as Declined, Held, Never}
 use Rattle.exports.specs.Judge.{JudgeAnswer}
+use Rattle.parts.specs.Parts.{PartJudged}
+use Rattle.exports.specs.Part.{PartAnswer}
 use Rattle.exports.specs.Need.{NeedAnswer}
 
 module _ (a x : Replay) (e : x ≡ a) where
@@ -26,20 +28,13 @@ module _ (a x : Replay) (e : x ≡ a) where
   pub refusal : (n i : ℕ) → x ≡ Refused n i → ReplayAnswer a n i
   refusal n i d = subst (λ (w : Replay). ReplayAnswer w n i) (sym d ∙ e) (record { code = refl; at = refl })
 
-module _ (f : List ℕ) (right : ℕ) (b b' : List ℕ) (j : Judgement) (J : Judged f right b j b') where
-  judges : (i : Judgement) → j ≡ i → JudgeAnswer f right b (judgementCode i) (stepsWritten i) b'
-  judges i d =
-      let e : i ≡ fileJudgement f right (length b) = sym d ∙ J .answer-is in
-      record { code = ap judgementCode e; written = ap stepsWritten e; judged = subst (λ (x : Judgement). Judged f right b x b') (J .answer-is) J }
+pub judge-answers : (f : List ℕ) (right : ℕ) (b b' : List ℕ) (j : Judgement) → Judged f right b j b' → (r steps : ℕ) → (r ≡ judgementCode j) × (steps ≡ stepsWritten j) → JudgeAnswer f right b r steps b'
+judge-answers f right b b' j J r steps e =
+    record { code = e .0 ∙ ap judgementCode (J .answer-is); written = e .1 ∙ ap stepsWritten (J .answer-is); judged = subst (λ (x : Judgement). Judged f right b x b') (J .answer-is) J }
 
-  pub judge-refuses : (n : ℕ) → j ≡ Refuses n → JudgeAnswer f right b n 0 b'
-  judge-refuses n = judges (Refuses n)
-
-  pub judge-safe : (n : ℕ) → j ≡ Safe n → JudgeAnswer f right b 0 n b'
-  judge-safe n = judges (Safe n)
-
-  pub judge-unsafe : (n : ℕ) → j ≡ Unsafe n → JudgeAnswer f right b 255 n b'
-  judge-unsafe n = judges (Unsafe n)
+pub part-answers : (f : List ℕ) (right : ℕ) (l b b' : List ℕ) (j : Judgement) → PartJudged f right l b j b' → (r steps : ℕ) → (r ≡ judgementCode j) × (steps ≡ stepsWritten j) → PartAnswer f right l b r steps b'
+part-answers f right l b b' j J r steps e =
+    record { code = e .0 ∙ ap judgementCode (J .answer-is); written = e .1 ∙ ap stepsWritten (J .answer-is); judged = subst (λ (x : Judgement). PartJudged f right l b x b') (J .answer-is) J }
 
 module _ (f l b b' : List ℕ) (j : Need) (J : Needed f l b j b') where
   needs-are : (i : Need) → j ≡ i → NeedAnswer f l b (needCode i) (stepsTaken i) b'

@@ -1,3 +1,4 @@
 pub mod Replay
 pub mod Judge
+pub mod Part
 pub mod Need

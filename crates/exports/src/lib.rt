@@ -3,8 +3,11 @@ ghost use mathlib.Core.Path.{_≡_};
 ghost use Rattle.policy.specs.Refusals.{refusal};
 ghost use Rattle.update.specs.Files.{FileRun};
 ghost use Rattle.trace.specs.Replays.{fileReplay};
+ghost use Rattle.safety.specs.Demand3.{stepsWritten};
+ghost use Rattle.safety.specs.Judgement.{judgementCode};
 ghost use Rattle.exports.specs.Replay.{ReplayAnswer};
 ghost use Rattle.exports.specs.Judge.{JudgeAnswer};
+ghost use Rattle.exports.specs.Part.{PartAnswer};
 ghost use Rattle.exports.specs.Need.{NeedAnswer};
 use needs::Need;
 use safety::Judgement;
@@ -56,12 +59,10 @@ pub extern "C" fn access_replay(file: &[u8], steps: &[u8], right: u8, step: &mut
     }
 }
 
-// Judges whether the right can leak: 0 safe, 255 unsafe, both with the number of steps written, else the refusal, with 0 steps.
-#[no_mangle]
-pub extern "C" fn access_judge(file: &[u8], right: u8, buffer: &mut [u8], steps: &mut u64) -> u8
-    ensures { λ r. ⌜ JudgeAnswer (now (file .entry)) right (now (buffer .entry)) r (now (steps .exit)) (now (buffer .exit)) ⌝ }
+// A judgement as two numbers: 0 safe, 255 unsafe, both with the number of steps written, else the refusal, with 0 steps.
+fn numbers(judgement: Judgement, steps: &mut u64) -> u8
+    ensures { λ r. ⌜ (r ≡ judgementCode judgement) × (now (steps .exit) ≡ stepsWritten judgement) ⌝ }
 {
-    let judgement = safety::judge_file(file, right, buffer);
     match judgement {
         Judgement::Refused(n) => {
             *steps = 0;
@@ -76,6 +77,30 @@ pub extern "C" fn access_judge(file: &[u8], right: u8, buffer: &mut [u8], steps:
             UNSAFE
         }
     }
+}
+
+// Judges whether the right can leak: its judgement as two numbers.
+#[no_mangle]
+pub extern "C" fn access_judge(file: &[u8], right: u8, buffer: &mut [u8], steps: &mut u64) -> u8
+    ensures { λ r. ⌜ JudgeAnswer (now (file .entry)) right (now (buffer .entry)) r (now (steps .exit)) (now (buffer .exit)) ⌝ }
+{
+    let judgement = safety::judge_file(file, right, buffer);
+    numbers(judgement, steps)
+}
+
+// Judges the part of the file that stays without the names on the list, a byte each: its judgement as two numbers.
+#[no_mangle]
+pub extern "C" fn access_judge_part(
+    file: &[u8],
+    right: u8,
+    trusted: &[u8],
+    buffer: &mut [u8],
+    steps: &mut u64,
+) -> u8
+    ensures { λ r. ⌜ PartAnswer (now (file .entry)) right (now (trusted .entry)) (now (buffer .entry)) r (now (steps .exit)) (now (buffer .exit)) ⌝ }
+{
+    let judgement = parts::judge_part(file, right, trusted, buffer);
+    numbers(judgement, steps)
 }
 
 // Asks whether all cells of the list, three bytes each, can be held at the same moment: 255 held, 0 never, both with the number of steps written, else the

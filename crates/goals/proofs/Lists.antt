@@ -13,7 +13,7 @@ use Rattle.goals.specs.Goals.{cellLimit, neededAt, cellsIn, neededBy, he
 use Rattle.goals.specs.declared.Goal.{Goal}
 
 pub held-copied : (l x : List ℕ) → length l ≤ 24 → x ≡ take (length l) l ++ drop (length l) (replicate 24 0)
-    → _≡_ {A = Goal} (record { judged = false; right = 0; count = length l / 3; cells = x }) (heldGoal l)
+    → _≡_ {A = Goal} (record { judged = false; right = 0; count = length l / 3; cells = x; reserved = 0 }) (heldGoal l)
 held-copied l x h e = let z : x ≡ padded 24 l = copied 24 l x h e in rw z
 
 pub held-cell : (l : List ℕ) (j : ℕ) → j < length l / 3 → neededAt (padded (3 * cellLimit) l) j ≡ neededAt l j

@@ -7,12 +7,13 @@ ghost use Rattle.matrix.specs.Bytes.{view, rightsIn};
 ghost use Rattle.goals.specs.Goals.{cellLimit, CellFits, GoalFits, neededAt, neededBy, leakGoal, heldGoal, questionOf, endsBy};
 use matrix::Matrix;
 
-// A right is judged, or the first cells of a list, three bytes each, are needed.
+// A right is judged, or the first cells of a list, three bytes each, are needed; and names, as digits of a mask, that a create may not take.
 pub struct Goal {
     pub judged: bool,
     pub right: u8,
     pub count: usize,
     pub cells: [u8; 3 * Goal::CELLS],
+    pub reserved: u32,
 }
 
 impl Goal {
@@ -20,14 +21,15 @@ impl Goal {
     pub const CELLS: usize = 8;
 
     // An enter of the right ends the rounds.
-    pub fn leak(right: u8) -> Self
-        ensures { λ r. ⌜ r ≡ leakGoal right ⌝ }
+    pub fn leak(reserved: u32, right: u8) -> Self
+        ensures { λ r. ⌜ r ≡ leakGoal reserved right ⌝ }
     {
         Goal {
             judged: true,
             right,
             count: 0,
             cells: [0u8; 3 * Goal::CELLS],
+            reserved,
         }
     }
 
@@ -43,24 +45,25 @@ impl Goal {
             right: 0,
             count: list.len() / 3,
             cells,
+            reserved: 0,
         }
     }
 }
 
 // Cell j of the list is held.
 fn cell_held<'a>(
-    goal: Goal,
+    list: &'a [u8; 3 * Goal::CELLS],
     j: usize,
     kinds: &'a [u8; Matrix::NAMES],
     cells: &'a [u8; Matrix::NAMES * Matrix::NAMES],
 ) -> bool
-    requires { ⌜ CellFits (goal .cells) j ⌝ }
-    ensures { λ r. ⌜ r ≡ rightsIn (now (kinds .entry)) (now (cells .entry)) (neededAt (goal .cells) j .subject) (neededAt (goal .cells) j .object) (neededAt (goal .cells) j .right) ⌝ }
+    requires { ⌜ CellFits (now list) j ⌝ }
+    ensures { λ r. ⌜ r ≡ rightsIn (now (kinds .entry)) (now (cells .entry)) (neededAt (now (list .entry)) j .subject) (neededAt (now (list .entry)) j .object) (neededAt (now (list .entry)) j .right) ⌝ }
 {
     let at = 3 * j;
-    let q = goal.cells[at];
-    let s = goal.cells[at + 1] as usize;
-    let o = goal.cells[at + 2] as usize;
+    let q = list[at];
+    let s = list[at + 1] as usize;
+    let o = list[at + 2] as usize;
     operations::cell_holds(kinds, cells, q, s, o)
 }
 
@@ -74,8 +77,9 @@ fn all_held<'a>(
     ensures { λ r. ⌜ r ≡ holdsAll (neededBy goal) (view (now (kinds .entry)) (now (cells .entry))) ⌝ }
 {
     let n = goal.count;
+    let list = goal.cells;
     for j in 0..n {
-        if !cell_held(goal, j, kinds, cells) {
+        if !cell_held(&list, j, kinds, cells) {
             return false;
         }
     }

@@ -14,13 +14,14 @@ use Rattle.cases.proofs.Bools.{holds as test-holds}
 use Rattle.cases.proofs.Lists.{length-tabulate}
 use Rattle.protection.specs.Size.{stepBound}
 use Rattle.protection.specs.Command.{Call}
-use Rattle.protection.specs.Judge.{Question, Progress, allRounds, Settled}
-use Rattle.protection.specs.Need.{heldOf, HeldAfter, NeverHeld}
+use Rattle.protection.specs.Judge.{noneReserved, Question, Progress, allRounds, Settled}
+use Rattle.protection.specs.Need.{heldBeside, heldOf, HeldAfter, NeverHeld}
 use Rattle.protection.proofs.Saturation.{Taken, rounds-settled}
 use Rattle.protection.proofs.Needed.{need-held, need-never, need-bound}
 use Rattle.matrix.specs.Matrices.{stateOf}
 use Rattle.matrix.proofs.Inverse.{view-proper}
 use Rattle.layout.specs.Refusals.{orElse}
+use Rattle.layout.proofs.OrElse.{either, or-first, or-second}
 use Rattle.policy.specs.Refusals.{refusal}
 use Rattle.policy.specs.Contents.{systemOf, policyOf, policyRead, fileState, fileSystem}
 use Rattle.policy.specs.Fits.{PolicyFits}
@@ -32,13 +33,14 @@ use Rattle.policy.proofs.Laws.{read-refusal, read-policy}
 use Rattle.policy.proofs.ReadPolicy.{policy-fits-read}
 use Rattle.goals.specs.Goals.{cellsIn, heldGoal, questionOf, GoalFits}
 use Rattle.goals.specs.declared.Goal.{Goal}
+use Rattle.goals.proofs.Ending.{none-reserved}
 use Rattle.goals.proofs.Lists.{held-needs}
 use Rattle.trace.specs.Traces.{stepCall, calls}
 use Rattle.visits.specs.Engine.{Course, progressOf, Asked}
 use Rattle.visits.proofs.Asked.{taken, room-left}
 use Rattle.questions.specs.Refusals.{sizeRefusal}
 use Rattle.questions.specs.Rounded.{Ended}
-use Rattle.questions.proofs.Refusals.{goal-asked}
+use Rattle.questions.proofs.Refusals.{open-asked}
 use Rattle.safety.specs.Judgement.{filled}
 use Rattle.safety.proofs.Buffers.{calls-back, buffer-filled}
 use Rattle.needs.specs.Needed.{listRefusal, needRefusal, fileRounds, needOf, fileNeed, stepsTaken, needBuffer, Needed}
@@ -53,7 +55,7 @@ need-asked p l n G e A = rw e A
 
 module _ (p : Policy) (l b : List ℕ) (G : Goal) (e : G ≡ heldGoal l) (j : Course) (b' : List ℕ) (E : Ended p G j b' b) where
   progress-is : progressOf j b' ≡ needRounds p l
-  progress-is = E .rounded .is ∙ ap (λ (Q : Question). allRounds (systemOf p) Q (stateOf (p .matrix))) (ap questionOf e ∙ ap heldOf (held-needs l))
+  progress-is = E .rounded .is ∙ ap (λ (Q : Question). allRounds (systemOf p) Q (stateOf (p .matrix))) (ap questionOf e ∙ ap₂ heldBeside (none-reserved 0 refl) (held-needs l))
 
   count-is : length (calls b' (j .steps)) ≡ j .steps
   count-is = length-tabulate (stepCall b') (j .steps) 0
@@ -71,19 +73,6 @@ module _ (p : Policy) (l b : List ℕ) (G : Goal) (e : G ≡ heldGoal l) (j : Co
   rounds-never d = rounded (Never (j .steps)) (ap Never (sym count-is) ∙ rw d)
 
 -- ---- a need that is not refused
-either : (a b : ℕ) → orElse a b ≡ 0 → (a ≡ 0) × (b ≡ 0)
-either a b e = go (ℕ-discrete a 0)
-  where
-    go : Dec (a ≡ 0) → (a ≡ 0) × (b ≡ 0)
-    go (yes z) = (z, sym (rw (eq-eqb a 0 z)) ∙ e)
-    go (no z) = absurd (z (sym (rw (ne-eqb a 0 z)) ∙ e))
-
-or-first : (a b : ℕ) → (a ≡ 0 → ⊥) → orElse a b ≡ a
-or-first a b z = rw (ne-eqb a 0 z)
-
-or-second : (a b : ℕ) → a ≡ 0 → orElse a b ≡ b
-or-second a b z = rw (eq-eqb a 0 z)
-
 pub record Passed (f l : List ℕ) (n : ℕ) : Type 0 where
   pub file : refusal f ≡ 0
   pub size : sizeRefusal (fileSystem f) (fileState f) n ≡ 0
@@ -105,12 +94,13 @@ module _ (f l b : List ℕ) where
   z = needRefusal f l (length b)
 
   module _ (e : z ≡ 0) where
-    file-taken : Taken (fileSystem f) (fileState f)
+    file-taken : Taken (fileSystem f) noneReserved (fileState f)
     unfolding policyOf
     file-taken =
         let P = passed f l (length b) e in
         let F = policy-fits f (accepted f (P .file)) in
-        taken (policyOf f) (heldGoal l) (length b) (goal-asked (policyOf f) (heldGoal l) (length b) (P .size) F (list-fits (policyOf f) l F (P .list)))
+        subst (λ (R : ℕ → Bool). Taken (fileSystem f) R (fileState f)) (none-reserved 0 refl)
+        (taken (policyOf f) (heldGoal l) (length b) (open-asked (policyOf f) (heldGoal l) (length b) refl (P .size) F (list-fits (policyOf f) l F (P .list))))
 
     need-is : fileNeed f l (length b) ≡ needOf (fileRounds f l)
     unfolding fileNeed
@@ -222,7 +212,7 @@ module _ (f l b : List ℕ) where
           fits = policy-fits-read f x d u
 
           pub file-asked : Asked (x .policy) (heldGoal l) (length b)
-          file-asked = goal-asked (x .policy) (heldGoal l) (length b) (sym e ∙ n) fits (list-fits (x .policy) l fits (sym g ∙ o))
+          file-asked = open-asked (x .policy) (heldGoal l) (length b) refl (sym e ∙ n) fits (list-fits (x .policy) l fits (sym g ∙ o))
 
           pub list-few : length l ≤ 24
           list-few = listed (systemOf (x .policy)) (stateOf (x .policy .matrix)) l (sym g ∙ o) .few

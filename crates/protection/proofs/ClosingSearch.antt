@@ -13,7 +13,7 @@ use Rattle.protection.specs.Limits.{names}
 use Rattle.protection.specs.State.{State, objectIn}
 use Rattle.protection.specs.Command.{Operation, enter, delete, createSubject, createObject, destroySubject, destroyObject, Command, System, Call, Actuals, actuals}
 use Rattle.protection.specs.Execution.{bounded, takeOut, effect, entersNew, done, execute}
-use Rattle.protection.specs.Judge.{firstIn, lowestAbsent, leakOf, operationIn, placesOf, callAt, allowed, deletesAt, entersAt, takes, returns, firstCall, both, pairAt, isEmpty, closing}
+use Rattle.protection.specs.Judge.{firstIn, lowestFree, leakBeside, operationIn, placesOf, callAt, allowed, deletesAt, entersAt, takes, returns, firstCall, both, pairAt, isEmpty, closing}
 use Rattle.protection.proofs.Calls.{Singles, outcome, call-done, allowed-carried}
 use Rattle.protection.proofs.Closed.{Reaches}
 use Rattle.protection.proofs.First.{first-passes, first-found}
@@ -55,7 +55,7 @@ module _ (p : Command → Call → Bool) (n : ℕ) where
       go true h = tt
       go false h = h
 
-  call-hit : (Cs : List Command) (i : ℕ) (x : Call) → firstCall p n i Cs ≡ some x → Hit p Cs i x
+  pub call-hit : (Cs : List Command) (i : ℕ) (x : Call) → firstCall p n i Cs ≡ some x → Hit p Cs i x
   call-hit [] i x e = absurd (Option·none-ne-some x e)
   call-hit (D ∷ Cs) i x e = go (ltb (least i D) (placesOf D n)) (ltb→lt (least i D) (placesOf D n)) (call-hit Cs (suc i) x) e
     where
@@ -87,7 +87,7 @@ module _ (S : System) (test : Actuals → Operation → Bool) (N : State) where
       go true t u = u
       go false t u = t
 
-  sought-parts : (C : Command) (x : Call) → T (sought C x) → T (test (actuals x) (operationIn C)) × T (allowed S N x)
+  pub sought-parts : (C : Command) (x : Call) → T (sought C x) → T (test (actuals x) (operationIn C)) × T (allowed S N x)
   sought-parts C x = go (test (actuals x) (operationIn C))
     where
       go : (b : Bool) → T (elim b [ true ↦ allowed S N x | false ↦ false ]) → T b × T (allowed S N x)
@@ -152,31 +152,31 @@ both-few none y = omega arith
 both-few (some x) none = omega arith
 both-few (some x) (some y) = omega arith
 
-module _ (S : System) (singles : Singles S) (r : ℕ) (m₀ M : State) where
+module _ (S : System) (singles : Singles S) (R : ℕ → Bool) (r : ℕ) (m₀ M : State) where
   abbrev deleted : ℕ → ℕ → Option Call
-  deleted u v = firstCall (takes S M r u v) (lowestAbsent M) 0 (S .commands)
+  deleted u v = firstCall (takes S M r u v) (lowestFree R M) 0 (S .commands)
 
   abbrev entered : ℕ → ℕ → Option Call
-  entered u v = firstCall (returns S M r u v) (lowestAbsent M) 0 (S .commands)
+  entered u v = firstCall (returns S M r u v) (lowestFree R M) 0 (S .commands)
 
   abbrev full : ℕ → Bool
-  full c = not (isEmpty (pairAt S r m₀ M (c / names) (c % names)))
+  full c = not (isEmpty (pairAt S R r m₀ M (c / names) (c % names)))
 
   abbrev cell : ℕ
   cell = firstIn full (names * names) 0
 
   -- ---- where a cell of the start has both steps, the search finds some cell
   module _ (below : (x : ℕ) → T (objectIn M x) → x < names) where
-    pair-full : (u v : ℕ) → T (m₀ .cell u v r) → Reaches S M (delete r) u v → Reaches S (takeOut M r u v) (enter r) u v → T (not (isEmpty (pairAt S r m₀ M u v)))
+    pair-full : (u v : ℕ) → T (m₀ .cell u v r) → Reaches S M (delete r) u v → Reaches S (takeOut M r u v) (enter r) u v → T (not (isEmpty (pairAt S R r m₀ M u v)))
     pair-full u v h D E = go (m₀ .cell u v r) h
       where
         go : (b : Bool) → T b → T (not (isEmpty (elim b [ true ↦ both (deleted u v) (entered u v) | false ↦ [] ])))
         go true t = both-full (deleted u v) (entered u v)
-            (finds S (deletesAt r u v) M singles below (lowestAbsent M) (delete r) (delete-on-cell r) u v (λ a s o. on-cell r u v s o a) D)
-            (finds S (entersAt r u v) (takeOut M r u v) singles below (lowestAbsent M) (enter r) (enter-on-cell r) u v (λ a s o. on-cell r u v s o a) E)
+            (finds S (deletesAt r u v) M singles below (lowestFree R M) (delete r) (delete-on-cell r) u v (λ a s o. on-cell r u v s o a) D)
+            (finds S (entersAt r u v) (takeOut M r u v) singles below (lowestFree R M) (enter r) (enter-on-cell r) u v (λ a s o. on-cell r u v s o a) E)
         go false t = absurd t
 
-    pub closing-none : T (isEmpty (closing S r m₀ M)) → (u v : ℕ) → u < names → v < names → T (m₀ .cell u v r) → Reaches S M (delete r) u v
+    pub closing-none : T (isEmpty (closing S R r m₀ M)) → (u v : ℕ) → u < names → v < names → T (m₀ .cell u v r) → Reaches S M (delete r) u v
         → Reaches S (takeOut M r u v) (enter r) u v → ⊥
     closing-none e u v lu lv h D E =
         let eu : (u * names + v) / names ≡ u = omega arith in
@@ -185,24 +185,24 @@ module _ (S : System) (singles : Singles S) (r : ℕ) (m₀ M : State) where
         let at = first-found full (names * names) (u * names + v) (omega arith) hit in
         go (ltb cell (names * names)) (lt→ltb cell (names * names) (at .0)) (at .1) e
       where
-        go : (b : Bool) → T b → T (full cell) → T (isEmpty (elim b [ true ↦ pairAt S r m₀ M (cell / names) (cell % names) | false ↦ [] ])) → ⊥
-        go true t f e = T-not (isEmpty (pairAt S r m₀ M (cell / names) (cell % names))) f e
+        go : (b : Bool) → T b → T (full cell) → T (isEmpty (elim b [ true ↦ pairAt S R r m₀ M (cell / names) (cell % names) | false ↦ [] ])) → ⊥
+        go true t f e = T-not (isEmpty (pairAt S R r m₀ M (cell / names) (cell % names))) f e
         go false t f e = t
 
   -- ---- what the search hands over
-  pub closing-few : length (closing S r m₀ M) ≤ 2
+  pub closing-few : length (closing S R r m₀ M) ≤ 2
   closing-few = at (ltb cell (names * names))
     where
       pair : (u v : ℕ) (b : Bool) → length {A = Call} (elim b [ true ↦ both (deleted u v) (entered u v) | false ↦ [] ]) ≤ 2
       pair u v true = both-few (deleted u v) (entered u v)
       pair u v false = omega arith
 
-      at : (b : Bool) → length {A = Call} (elim b [ true ↦ pairAt S r m₀ M (cell / names) (cell % names) | false ↦ [] ]) ≤ 2
+      at : (b : Bool) → length {A = Call} (elim b [ true ↦ pairAt S R r m₀ M (cell / names) (cell % names) | false ↦ [] ]) ≤ 2
       at true = pair (cell / names) (cell % names) (m₀ .cell (cell / names) (cell % names) r)
       at false = omega arith
 
-  module _ (xs : List Call) (G : Goes S (leakOf r) m₀ xs M false) where
-    two-steps : (u v : ℕ) (x y : Call) → Hit (takes S M r u v) (S .commands) 0 x → Hit (returns S M r u v) (S .commands) 0 y → (m : State) × Goes S (leakOf r) m₀ (xs ++ (x ∷ y ∷ [])) m true
+  module _ (xs : List Call) (G : Goes S (leakBeside R r) m₀ xs M false) where
+    two-steps : (u v : ℕ) (x y : Call) → Hit (takes S M r u v) (S .commands) 0 x → Hit (returns S M r u v) (S .commands) 0 y → (m : State) × Goes S (leakBeside R r) m₀ (xs ++ (x ∷ y ∷ [])) m true
     two-steps u v x y H K =
         let N = takeOut M r u v in
         let dx = sought-parts S (deletesAt r u v) M (H .C) x (H .passes) .0 in
@@ -212,20 +212,20 @@ module _ (S : System) (singles : Singles S) (r : ℕ) (m₀ M : State) where
         let G' = more y (more x G (λ q. false) ex refl) (entersNew N (actuals y) (operationIn (K .C))) ey (after-enter r u v M (actuals y) (operationIn (K .C)) dy) in
         (effect N (actuals y) (operationIn (K .C)), rw append-assoc at G')
 
-    pair-sound : (u v : ℕ) → T (not (isEmpty (pairAt S r m₀ M u v))) → (m : State) × Goes S (leakOf r) m₀ (xs ++ pairAt S r m₀ M u v) m true
+    pair-sound : (u v : ℕ) → T (not (isEmpty (pairAt S R r m₀ M u v))) → (m : State) × Goes S (leakBeside R r) m₀ (xs ++ pairAt S R r m₀ M u v) m true
     pair-sound u v = go (m₀ .cell u v r)
       where
         go : (b : Bool) → T (not (isEmpty (elim b [ true ↦ both (deleted u v) (entered u v) | false ↦ [] ])))
-            → (m : State) × Goes S (leakOf r) m₀ (xs ++ elim b [ true ↦ both (deleted u v) (entered u v) | false ↦ [] ]) m true
+            → (m : State) × Goes S (leakBeside R r) m₀ (xs ++ elim b [ true ↦ both (deleted u v) (entered u v) | false ↦ [] ]) m true
         go true t =
             let (x, y, ex, ey, e) = both-is (deleted u v) (entered u v) t in
-            rw e (two-steps u v x y (call-hit (takes S M r u v) (lowestAbsent M) (S .commands) 0 x ex) (call-hit (returns S M r u v) (lowestAbsent M) (S .commands) 0 y ey))
+            rw e (two-steps u v x y (call-hit (takes S M r u v) (lowestFree R M) (S .commands) 0 x ex) (call-hit (returns S M r u v) (lowestFree R M) (S .commands) 0 y ey))
         go false t = absurd t
 
-    pub closing-sound : T (not (isEmpty (closing S r m₀ M))) → (m : State) × Goes S (leakOf r) m₀ (xs ++ closing S r m₀ M) m true
+    pub closing-sound : T (not (isEmpty (closing S R r m₀ M))) → (m : State) × Goes S (leakBeside R r) m₀ (xs ++ closing S R r m₀ M) m true
     closing-sound = go (ltb cell (names * names))
       where
-        go : (b : Bool) → T (not (isEmpty (elim b [ true ↦ pairAt S r m₀ M (cell / names) (cell % names) | false ↦ [] ])))
-            → (m : State) × Goes S (leakOf r) m₀ (xs ++ elim b [ true ↦ pairAt S r m₀ M (cell / names) (cell % names) | false ↦ [] ]) m true
+        go : (b : Bool) → T (not (isEmpty (elim b [ true ↦ pairAt S R r m₀ M (cell / names) (cell % names) | false ↦ [] ])))
+            → (m : State) × Goes S (leakBeside R r) m₀ (xs ++ elim b [ true ↦ pairAt S R r m₀ M (cell / names) (cell % names) | false ↦ [] ]) m true
         go true t = pair-sound (cell / names) (cell % names) t
         go false t = absurd t

@@ -13,7 +13,7 @@ use Rattle.protection.specs.Command.{Command, System, Call, actuals, spa
 use Rattle.protection.specs.Execution.{Outcome, refused, done, execute}
 use Rattle.protection.specs.Leak.{after}
 use Rattle.protection.specs.Paper.{Configuration, configuration, Same, Executes}
-use Rattle.protection.specs.Judge.{Question, leakOf, opened, round, rounds, conclude, allRounds, judge, Settled}
+use Rattle.protection.specs.Judge.{Question, leakBeside, opened, round, rounds, conclude, allRounds, judgeBeside, Settled}
 use Rattle.protection.specs.Agreement.{Admitted, Agrees}
 use Rattle.protection.proofs.Spare.{fits-name, fits-rest}
 
@@ -22,10 +22,10 @@ pub settled-still : (S : System) (Q : Question) (m : State) → Settled S Q m �
 settled-still S Q m K going = ⊎-elim (λ t. absurd (T-not (allRounds S Q m .ended) going t)) (λ e. e) (K .ends)
 
 -- a judge with more fuel is the same judge
-pub any-fuel : (S : System) (r : ℕ) (m : State) → Settled S (leakOf r) m → (fuel : ℕ) → stepBound (S .rights) m ≤ fuel
-    → conclude S r m (rounds S (leakOf r) fuel (opened (leakOf r) m)) ≡ judge S r m
-unfolding judge
-any-fuel S r m K fuel l = ap (conclude S r m) (K .enough fuel l)
+pub any-fuel : (S : System) (R : ℕ → Bool) (r : ℕ) (m : State) → Settled S (leakBeside R r) m → (fuel : ℕ) → stepBound (S .rights) m ≤ fuel
+    → conclude S R r m (rounds S (leakBeside R r) fuel (opened (leakBeside R r) m)) ≡ judgeBeside S R r m
+unfolding judgeBeside
+any-fuel S R r m K fuel l = ap (conclude S R r m) (K .enough fuel l)
 
 module _ (nameable : ℕ → Bool) (S : System) (x : Call) (C : Command) (A : Admitted nameable S x C) where
   -- a call that is admitted is one of a command that is there

@@ -13,8 +13,8 @@ use Rattle.protection.specs.Command.{Command, System, Call, actuals}
 use Rattle.protection.specs.Execution.{bounded, execute}
 use Rattle.protection.specs.Leak.{after}
 use Rattle.protection.specs.Size.{stepBound}
-use Rattle.protection.specs.Judge.{lowestAbsent, isCreateSubject, isCreateObject, operationIn, placesOf, callAt, Question, Progress, opened, allowed, wanted, doStep, visit, tryCommandAt, tryCommand, tryCommands, round, rounds, allRounds}
-use Rattle.protection.specs.Need.{nothing}
+use Rattle.protection.specs.Judge.{lowestFree, isCreateSubject, isCreateObject, operationIn, placesOf, callAt, Question, Progress, opened, allowed, wanted, doStep, visit, tryCommandAt, tryCommand, tryCommands, round, rounds, allRounds}
+use Rattle.protection.specs.Need.{nothingBeside}
 use Rattle.protection.proofs.Rounds.{size, visit-split}
 
 -- k has the steps of j, and perhaps more
@@ -59,11 +59,15 @@ beside-iterate f g B zero i = beside-none
 beside-iterate f g B (suc n) i = beside-then (f i) (g i) (iterate f n (suc i)) (iterate g n (suc i)) (B i) (beside-iterate f g B n (suc i))
 
 module _ (S : System) (Q : Question) where
-  beside-visit : (i : ℕ) (C : Command) (n p : ℕ) → Beside (visit S Q i C n p) (visit S nothing i C n p)
+  -- nothing ends these, and creates may take the same names
+  abbrev N : Question
+  N = nothingBeside (Q .reserved)
+
+  beside-visit : (i : ℕ) (C : Command) (n p : ℕ) → Beside (visit S Q i C n p) (visit S N i C n p)
   beside-visit i C n p = record {
     together = λ j going. together j going (j .ended) (wanted j (actuals x) (operationIn C)) (allowed S (j .state) x) going;
     idle = λ j over. rw (is-true (j .ended) over);
-    grows = λ k. visit-split S nothing i C n p k (Extends k) (λ _ _ _. (x ∷ [], refl)) (extends-self k);
+    grows = λ k. visit-split S N i C n p k (Extends k) (λ _ _ _. (x ∷ [], refl)) (extends-self k);
   }
     where
       x : Call
@@ -85,37 +89,37 @@ module _ (S : System) (Q : Question) where
 
       together : (j : Progress) → T (not (j .ended)) → (b c d : Bool) → T (not b) → Front
           (elim b [ true ↦ j | false ↦ elim c [ true ↦ elim d [ true ↦ doStep S Q (operationIn C) x j | false ↦ j ] | false ↦ j ] ])
-          (elim b [ true ↦ j | false ↦ elim c [ true ↦ elim d [ true ↦ doStep S nothing (operationIn C) x j | false ↦ j ] | false ↦ j ] ])
+          (elim b [ true ↦ j | false ↦ elim c [ true ↦ elim d [ true ↦ doStep S N (operationIn C) x j | false ↦ j ] | false ↦ j ] ])
       together j going true c d t = absurd t
       together j going false true true t = step j (Q .byStep (execute bounded S (j .state) x))
       together j going false true false t = inl (going, refl)
       together j going false false d t = inl (going, refl)
 
   -- each tries the name that is lowest absent in its own state: in one and the same, the same
-  beside-command : (i : ℕ) (C : Command) → Beside (tryCommand S Q i C) (tryCommand S nothing i C)
+  beside-command : (i : ℕ) (C : Command) → Beside (tryCommand S Q i C) (tryCommand S N i C)
   beside-command i C = record {
-    together = λ j. at (lowestAbsent (j .state)) .together j;
-    idle = λ j. at (lowestAbsent (j .state)) .idle j;
-    grows = λ k. at (lowestAbsent (k .state)) .grows k;
+    together = λ j. at (lowestFree (Q .reserved) (j .state)) .together j;
+    idle = λ j. at (lowestFree (Q .reserved) (j .state)) .idle j;
+    grows = λ k. at (lowestFree (Q .reserved) (k .state)) .grows k;
   }
     where
-      at : (n : ℕ) → Beside (tryCommandAt S Q i C n) (tryCommandAt S nothing i C n)
-      at n = beside-iterate (visit S Q i C n) (visit S nothing i C n) (beside-visit i C n) (placesOf C n) 0
+      at : (n : ℕ) → Beside (tryCommandAt S Q i C n) (tryCommandAt S N i C n)
+      at n = beside-iterate (visit S Q i C n) (visit S N i C n) (beside-visit i C n) (placesOf C n) 0
 
-  beside-commands : (Cs : List Command) (i : ℕ) → Beside (tryCommands S Q i Cs) (tryCommands S nothing i Cs)
+  beside-commands : (Cs : List Command) (i : ℕ) → Beside (tryCommands S Q i Cs) (tryCommands S N i Cs)
   beside-commands [] i = beside-none
   beside-commands (C ∷ Cs) i =
-      beside-then (tryCommand S Q i C) (tryCommand S nothing i C) (tryCommands S Q (suc i) Cs) (tryCommands S nothing (suc i) Cs) (beside-command i C)
+      beside-then (tryCommand S Q i C) (tryCommand S N i C) (tryCommands S Q (suc i) Cs) (tryCommands S N (suc i) Cs) (beside-command i C)
       (beside-commands Cs (suc i))
 
-  beside-round : Beside (round S Q) (round S nothing)
+  beside-round : Beside (round S Q) (round S N)
   beside-round = beside-commands (S .commands) 0
 
   -- what follows a round that began with s steps: at most n rounds
   abbrev later : Question → ℕ → ℕ → Progress → Progress
   later Q n s j = elim (j .ended) [ true ↦ j | false ↦ elim (eqb (size j) s) [ true ↦ j | false ↦ rounds S Q n j ] ]
 
-  beside-later : (n : ℕ) → Beside (rounds S Q n) (rounds S nothing n) → (s : ℕ) → Beside (later Q n s) (later nothing n s)
+  beside-later : (n : ℕ) → Beside (rounds S Q n) (rounds S N n) → (s : ℕ) → Beside (later Q n s) (later N n s)
   beside-later n B s = record {
     together = λ j going. together j going (j .ended) (eqb (size j) s) going;
     idle = λ j over. rw (is-true (j .ended) over);
@@ -124,17 +128,17 @@ module _ (S : System) (Q : Question) where
     where
       together : (j : Progress) → T (not (j .ended)) → (b c : Bool) → T (not b) → Front
           (elim b [ true ↦ j | false ↦ elim c [ true ↦ j | false ↦ rounds S Q n j ] ])
-          (elim b [ true ↦ j | false ↦ elim c [ true ↦ j | false ↦ rounds S nothing n j ] ])
+          (elim b [ true ↦ j | false ↦ elim c [ true ↦ j | false ↦ rounds S N n j ] ])
       together j going true c t = absurd t
       together j going false true t = inl (going, refl)
       together j going false false t = B .together j going
 
-      grows : (k : Progress) (b c : Bool) → Extends k (elim b [ true ↦ k | false ↦ elim c [ true ↦ k | false ↦ rounds S nothing n k ] ])
+      grows : (k : Progress) (b c : Bool) → Extends k (elim b [ true ↦ k | false ↦ elim c [ true ↦ k | false ↦ rounds S N n k ] ])
       grows k true c = extends-self k
       grows k false true = extends-self k
       grows k false false = B .grows k
 
-  beside-rounds : (fuel : ℕ) → Beside (rounds S Q fuel) (rounds S nothing fuel)
+  beside-rounds : (fuel : ℕ) → Beside (rounds S Q fuel) (rounds S N fuel)
   unfolding rounds
   beside-rounds zero = beside-none
   beside-rounds (suc n) = record {
@@ -143,10 +147,10 @@ module _ (S : System) (Q : Question) where
     grows = λ k. at (beside-rounds n) (size k) .grows k;
   }
     where
-      at : Beside (rounds S Q n) (rounds S nothing n) → (s : ℕ) → Beside (λ j. later Q n s (round S Q j)) (λ j. later nothing n s (round S nothing j))
-      at B s = beside-then (round S Q) (round S nothing) (later Q n s) (later nothing n s) beside-round (beside-later n B s)
+      at : Beside (rounds S Q n) (rounds S N n) → (s : ℕ) → Beside (λ j. later Q n s (round S Q j)) (λ j. later N n s (round S N j))
+      at B s = beside-then (round S Q) (round S N) (later Q n s) (later N n s) beside-round (beside-later n B s)
 
-  front-opened : (m : State) → Front (opened Q m) (opened nothing m)
+  front-opened : (m : State) → Front (opened Q m) (opened N m)
   front-opened m = go (Q .atStart m)
     where
       from : Bool → Progress
@@ -156,14 +160,14 @@ module _ (S : System) (Q : Question) where
       go true = inr (tt, extends-self (from true))
       go false = inl (tt, refl)
 
-  front-rounds : (m : State) → Front (allRounds S Q m) (allRounds S nothing m)
+  front-rounds : (m : State) → Front (allRounds S Q m) (allRounds S N m)
   front-rounds m =
       let fuel = stepBound (S .rights) m in
-      beside-front (rounds S Q fuel) (rounds S nothing fuel) (beside-rounds fuel) (opened Q m) (opened nothing m) (front-opened m)
+      beside-front (rounds S Q fuel) (rounds S N fuel) (beside-rounds fuel) (opened Q m) (opened N m) (front-opened m)
 
   -- ---- of all rounds
-  pub front-steps : (m : State) → (rest : List Call) × (allRounds S nothing m .steps ≡ allRounds S Q m .steps ++ rest)
+  pub front-steps : (m : State) → (rest : List Call) × (allRounds S N m .steps ≡ allRounds S Q m .steps ++ rest)
   front-steps m = ⊎-elim (λ h. subst (Extends (allRounds S Q m)) (h .1) (extends-self (allRounds S Q m))) (λ h. h .1) (front-rounds m)
 
-  pub same-steps : (m : State) → T (not (allRounds S Q m .ended)) → allRounds S Q m .steps ≡ allRounds S nothing m .steps
+  pub same-steps : (m : State) → T (not (allRounds S Q m .ended)) → allRounds S Q m .steps ≡ allRounds S N m .steps
   same-steps m going = ⊎-elim (λ h. ap (λ (j : Progress). j .steps) (h .1)) (λ h. absurd (T-not (allRounds S Q m .ended) going (h .0))) (front-rounds m)

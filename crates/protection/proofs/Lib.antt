@@ -18,7 +18,9 @@ pub mod Sums
 pub mod Bound
 pub mod Consequences
 pub mod Saturation
+pub mod Parts
 pub mod Safety
+pub mod Trusted
 pub mod Fronts
 pub mod Spared
 pub mod Needed

@@ -15,7 +15,7 @@ use Rattle.protection.specs.Size.{stepBound}
 use Rattle.protection.specs.Command.{Operation, enter, delete, createSubject, createObject, destroySubject, destroyObject, Command, System, Call, Actuals, actuals}
 use Rattle.protection.specs.Execution.{unbounded, execute}
 use Rattle.protection.specs.Leak.{after, isRefused, anyRefused}
-use Rattle.protection.specs.Judge.{lowestAbsent, operationIn, callAt, Progress, opened, wanted, visit, allRounds}
+use Rattle.protection.specs.Judge.{noneReserved, lowestFree, operationIn, callAt, Progress, opened, wanted, visit, allRounds}
 use Rattle.protection.specs.Need.{Cell, CellsThere, holdsAll, heldOf, final, destroysOld, destroysAnyOld, operationsOf, destroysStart, HeldAfter, NeverHeld}
 use Rattle.protection.proofs.Widening.{call-unbounded}
 use Rattle.protection.proofs.Rounds.{visit-cases, keep-rounds}
@@ -101,7 +101,7 @@ module _ (S : System) (m₀ : State) where
   wanted-spares j a (destroyObject o) want t = want
 
 -- ---- the theorem
-module _ (S : System) (cs : List Cell) (m : State) (K : Taken S m) where
+module _ (S : System) (cs : List Cell) (m : State) (K : Taken S noneReserved m) where
   abbrev last : Progress
   last = allRounds S (heldOf cs) m
 
@@ -139,7 +139,7 @@ module _ (S : System) (cs : List Cell) (m : State) (K : Taken S m) where
     all-steps = same-steps S (heldOf cs) m going;
     never = λ xs spared t.
         T-not (last .ended) going (rw ended-held
-        (spared-held S (K .singles) m (last .state) (lowestAbsent (last .state)) (last-saturated S (heldOf cs) m K going) cs there xs spared t));
+        (spared-held S (K .singles) m (last .state) (lowestFree noneReserved (last .state)) (last-saturated S (heldOf cs) m K going) cs there xs spared t));
   }
 
   -- so the cells are held in the end exactly where some run that destroys no name of the start ends with all of them held

@@ -13,7 +13,8 @@ use Rattle.protection.specs.Command.{Condition, Operation, enter, delete
 use Rattle.protection.specs.Execution.{bounded, unbounded, Outcome, refused, execute}
 use Rattle.protection.specs.Leak.{isRefused, leaks, anyRefused, LeaksLast}
 use Rattle.protection.specs.Size.{count}
-use Rattle.protection.specs.Judge.{lowestAbsent, placesOf, rounds, Verdict, allRounds, judge}
+use Rattle.protection.specs.Judge.{lowestFree, placesOf, rounds, Verdict, allRounds, judgeBeside, judge}
+use Rattle.protection.specs.Part.{judgePart}
 use Rattle.protection.specs.Need.{Cell, CellsThere, heldOf, nothing, final, destroysAnyOld, destroysStart, HeldAfter, NeverHeld}
 
 -- ---- small states, systems and calls
@@ -167,18 +168,18 @@ unsafe xs = record { unsafe = true; steps = xs }
 
 -- "for each rule through all actuals, the first blank slowest"
 blanks-in-order : judge (system 1 (command 2 [] (enter 0 0 1 ∷ []) ∷ [])) 0 (state (subject ∷ subject ∷ []) (mark 0 0 0 ∷ [])) ≡ unsafe (call 0 (0 ∷ 1 ∷ []) ∷ [])
-unfolding judge rounds lowestAbsent iterate all count
+unfolding judgeBeside rounds lowestFree iterate all count
 blanks-in-order = refl
 
 -- "It goes through the rules in order"; "After the last rule it starts again"
 rules-in-order
     : judge (system 2 (command 1 (ifIn 1 0 0 ∷ []) (enter 0 0 0 ∷ []) ∷ command 1 [] (enter 1 0 0 ∷ []) ∷ command 1 [] (enter 0 0 0 ∷ []) ∷ [])) 0 without
     ≡ unsafe (call 1 (0 ∷ []) ∷ call 2 (0 ∷ []) ∷ [])
-unfolding judge rounds lowestAbsent iterate all count
+unfolding judgeBeside rounds lowestFree iterate all count
 rules-in-order = refl
 
 again-from-the-first : judge (system 2 (command 1 (ifIn 1 0 0 ∷ []) (enter 0 0 0 ∷ []) ∷ command 1 [] (enter 1 0 0 ∷ []) ∷ [])) 0 without ≡ unsafe (call 1 (0 ∷ []) ∷ call 0 (0 ∷ []) ∷ [])
-unfolding judge rounds lowestAbsent iterate all count
+unfolding judgeBeside rounds lowestFree iterate all count
 again-from-the-first = refl
 
 -- "A created blank gets only the name that is lowest absent when the judge reaches the rule in that round"; "a create object if the judge has done no create
@@ -197,12 +198,12 @@ creates
     0
     (state (absent ∷ subject ∷ object ∷ []) [])
     ≡ safe (call 0 (0 ∷ []) ∷ call 2 (3 ∷ []) ∷ call 4 (0 ∷ []) ∷ call 4 (1 ∷ []) ∷ [])
-unfolding judge rounds lowestAbsent iterate all count
+unfolding judgeBeside rounds lowestFree iterate all count
 creates = refl
 
 -- "The judge always writes 0 there" (C-11)
 spare-is-0 : judge (system 1 (command 3 [] (enter 0 1 1 ∷ []) ∷ [])) 0 (state (absent ∷ subject ∷ []) []) ≡ unsafe (call 0 (0 ∷ 1 ∷ 0 ∷ []) ∷ [])
-unfolding judge rounds lowestAbsent iterate all count
+unfolding judgeBeside rounds lowestFree iterate all count
 spare-is-0 = refl
 
 -- "for each start cell (s, o) holding r, row by row: the first allowed delete of r from it, and the first enter of r into it allowed once r is gone; the first
@@ -213,12 +214,12 @@ cells-in-order
     0
     (state (subject ∷ subject ∷ []) (mark 0 0 0 ∷ mark 0 0 1 ∷ mark 1 0 1 ∷ mark 0 1 0 ∷ mark 1 1 0 ∷ []))
     ≡ unsafe (call 0 (0 ∷ 1 ∷ []) ∷ call 1 (0 ∷ 1 ∷ []) ∷ [])
-unfolding judge rounds lowestAbsent iterate all count
+unfolding judgeBeside rounds lowestFree iterate all count
 cells-in-order = refl
 
 -- "once r is gone": from that cell, and from no other
 gone-there : judge (system 1 (command 1 [] (delete 0 0 0 ∷ []) ∷ command 1 (ifIn 0 0 0 ∷ []) (enter 0 0 0 ∷ []) ∷ [])) 0 with ≡ safe []
-unfolding judge rounds lowestAbsent iterate all count
+unfolding judgeBeside rounds lowestFree iterate all count
 gone-there = refl
 
 there-elsewhere
@@ -227,8 +228,53 @@ there-elsewhere
     0
     (state (subject ∷ object ∷ []) (mark 0 0 0 ∷ mark 0 0 1 ∷ []))
     ≡ unsafe (call 1 (0 ∷ 1 ∷ []) ∷ call 0 (0 ∷ 1 ∷ []) ∷ [])
-unfolding judge rounds lowestAbsent iterate all count
+unfolding judgeBeside rounds lowestFree iterate all count
 there-elsewhere = refl
+
+-- ---- names left out (document 02, C-15); name 0 is left out
+abbrev office : ℕ → Bool
+office x = eqb x 0
+
+-- "drop their rows and columns, and judge the part that stays": rule 0 (a,b): if 1 in (a,b), enter 0 into (b,b); right 1 stands in the office's row
+abbrev grants : System
+grants = system 2 (command 2 (ifIn 1 0 1 ∷ []) (enter 0 1 1 ∷ []) ∷ [])
+
+office-grants : judge grants 0 (state (subject ∷ subject ∷ []) (mark 1 0 1 ∷ [])) ≡ unsafe (call 0 (0 ∷ 1 ∷ []) ∷ [])
+unfolding judgeBeside rounds lowestFree iterate all count
+office-grants = refl
+
+without-its-row : judgePart grants office 0 (state (subject ∷ subject ∷ []) (mark 1 0 1 ∷ [])) ≡ safe []
+unfolding judgeBeside rounds lowestFree iterate all count
+without-its-row = refl
+
+-- and in its column
+without-its-column : judgePart (system 2 (command 2 (ifIn 1 0 1 ∷ []) (enter 0 0 0 ∷ []) ∷ [])) office 0 (state (subject ∷ subject ∷ []) (mark 1 1 0 ∷ [])) ≡ safe []
+unfolding judgeBeside rounds lowestFree iterate all count
+without-its-column = refl
+
+-- what stays leaks by itself
+leaks-without : judgePart grants office 0 (state (subject ∷ subject ∷ object ∷ []) (mark 1 1 1 ∷ [])) ≡ unsafe (call 0 (1 ∷ 1 ∷ []) ∷ [])
+unfolding judgeBeside rounds lowestFree iterate all count
+leaks-without = refl
+
+-- "created names are the lowest absent in the whole matrix": not 0, though the part lacks it
+created-beside
+    : judgePart (system 2 (command 1 [] (createSubject 0 ∷ []) ∷ command 1 (ifIn 1 0 0 ∷ []) (enter 0 0 0 ∷ []) ∷ [])) office 0 (state (subject ∷ subject ∷ []) [])
+    ≡ safe (call 0 (2 ∷ []) ∷ [])
+unfolding judgeBeside rounds lowestFree iterate all count
+created-beside = refl
+
+-- the closing search goes through the part's start cells: right 0 can be taken from (0,1) and given back, which the part lacks
+abbrev returning : System
+returning = system 1 (command 2 [] (delete 0 0 1 ∷ []) ∷ command 2 [] (enter 0 0 1 ∷ []) ∷ [])
+
+whole-cells : judge returning 0 (state (subject ∷ object ∷ []) (mark 0 0 0 ∷ mark 0 0 1 ∷ [])) ≡ unsafe (call 0 (0 ∷ 0 ∷ []) ∷ call 1 (0 ∷ 0 ∷ []) ∷ [])
+unfolding judgeBeside rounds lowestFree iterate all count
+whole-cells = refl
+
+part-cells : judgePart returning office 0 (state (subject ∷ object ∷ []) (mark 0 0 0 ∷ mark 0 0 1 ∷ [])) ≡ safe []
+unfolding judgeBeside rounds lowestFree iterate all count
+part-cells = refl
 
 -- ---- cells that are needed (document 02, C-14)
 abbrev needs : ℕ → ℕ → ℕ → Cell
@@ -249,15 +295,15 @@ stepsTo cs m = allRounds press (heldOf cs) m .steps
 
 -- "the judge's steps, in its order, up to the first matrix that holds them all (0 steps if the start does)"
 up-to-held : stepsTo (needs 1 0 0 ∷ needs 0 0 0 ∷ []) without ≡ call 0 (0 ∷ []) ∷ call 1 (0 ∷ 0 ∷ []) ∷ []
-unfolding rounds lowestAbsent iterate all count
+unfolding rounds lowestFree iterate all count
 up-to-held = refl
 
 no-cells : stepsTo [] without ≡ []
-unfolding rounds lowestAbsent iterate all count
+unfolding rounds lowestFree iterate all count
 no-cells = refl
 
 held-at-the-start : stepsTo (needs 0 0 0 ∷ []) with ≡ []
-unfolding rounds lowestAbsent iterate all count
+unfolding rounds lowestFree iterate all count
 held-at-the-start = refl
 
 -- "all the steps of the rounds then stand in the buffer"
@@ -265,11 +311,11 @@ abbrev allSteps : List Call
 allSteps = call 0 (0 ∷ []) ∷ call 1 (0 ∷ 0 ∷ []) ∷ call 3 (1 ∷ []) ∷ call 0 (1 ∷ []) ∷ call 1 (1 ∷ 0 ∷ []) ∷ []
 
 never-held : stepsTo (needs 2 0 0 ∷ []) without ≡ allSteps
-unfolding rounds lowestAbsent iterate all count
+unfolding rounds lowestFree iterate all count
 never-held = refl
 
 by-nothing : allRounds press nothing without .steps ≡ allSteps
-unfolding rounds lowestAbsent iterate all count
+unfolding rounds lowestFree iterate all count
 by-nothing = refl
 
 -- a first rule run that the judge does not begin with

@@ -7,5 +7,6 @@ pub mod Execution
 pub mod Leak
 pub mod Judge
 pub mod Need
+pub mod Part
 pub mod Paper
 pub mod Agreement

@@ -10,7 +10,7 @@ use Rattle.protection.specs.State.{State, objectIn, subjectIn}
 use Rattle.protection.specs.Command.{Operation, enter, delete, createSubject, createObject, destroySubject, destroyObject, Command, System, Call, Actuals, actuals}
 use Rattle.protection.specs.Execution.{unbounded, Outcome, refused, done, execute}
 use Rattle.protection.specs.Leak.{after, isRefused, anyRefused}
-use Rattle.protection.specs.Judge.{Question, allRounds}
+use Rattle.protection.specs.Judge.{noneReserved, Question, allRounds}
 
 -- "cells .. each given as three bytes: right, subject, name"
 pub record Cell : Type 0 where
@@ -34,12 +34,18 @@ holdsThen cs (refused n) = false
 holdsThen cs (done m new) = holdsAll cs m
 
 -- "up to the first matrix that holds them all (0 steps if the start does)"
+abbrev pub heldBeside : (ℕ → Bool) → List Cell → Question
+heldBeside R cs = record { atStart = holdsAll cs; byStep = holdsThen cs; reserved = R }
+
 abbrev pub heldOf : List Cell → Question
-heldOf cs = record { atStart = holdsAll cs; byStep = holdsThen cs }
+heldOf cs = heldBeside noneReserved cs
 
 -- "no right is judged, so no enter ends the steps early"
+abbrev pub nothingBeside : (ℕ → Bool) → Question
+nothingBeside R = record { atStart = λ m. false; byStep = λ o. false; reserved = R }
+
 abbrev pub nothing : Question
-nothing = record { atStart = λ m. false; byStep = λ o. false }
+nothing = nothingBeside noneReserved
 
 -- ---- runs
 -- the state that a run leaves

@@ -1,6 +1,6 @@
 -- Refusals 22 to 24: what the code tests, and what holds where none is given. Assumes nothing.
 use Prim.Native.Nat.{ℕ, zero, suc, _+_, _*_, _-_, _≤_, _<_}
-use mathlib.Core.Path.{_≡_, refl, sym, ap, ap₂, _∙_}
+use mathlib.Core.Path.{_≡_, refl, sym, ap, ap₂, _∙_, subst}
 use mathlib.Core.Bool.{Bool, true, false, not, _&&_}
 use mathlib.Core.List.{[]}
 use native.Mathlib.Omega.{arith}
@@ -14,7 +14,7 @@ use Rattle.cases.proofs.Bools.{holds as test-holds}
 use Rattle.cases.proofs.Loops.{all-at, all-false, all-true}
 use Rattle.protection.specs.Limits.{startNames}
 use Rattle.protection.specs.State.{State}
-use Rattle.protection.specs.Size.{namesOf, stepBound}
+use Rattle.protection.specs.Size.{namesOf, takenNames, stepBound}
 use Rattle.protection.specs.Command.{System}
 use Rattle.matrix.specs.Bytes.{view}
 use Rattle.matrix.specs.Matrices.{stateOf}
@@ -24,7 +24,8 @@ use Rattle.commands.specs.declared.Command.{Command}
 use Rattle.policy.specs.Contents.{systemOf}
 use Rattle.policy.specs.Fits.{PolicyFits}
 use Rattle.policy.specs.declared.Policy.{Policy}
-use Rattle.goals.specs.Goals.{GoalFits}
+use Rattle.goals.specs.Goals.{reservedBy, GoalFits}
+use Rattle.goals.proofs.Ending.{none-reserved}
 use Rattle.goals.specs.declared.Goal.{Goal}
 use Rattle.visits.specs.Engine.{boundOf, commandNumber, Asked}
 use Rattle.questions.specs.Refusals.{singleOperations, sizeRefusal}
@@ -102,20 +103,23 @@ sized S m n e = go (singleOperations (S .commands)) (ltb startNames (namesOf m))
     go true false true eb ec ed q = absurd (nonzero 23 q)
     go true false false eb ec ed q = record { single = eb; few-names = not-less startNames (namesOf m) ec; room = not-less n (5 * stepBound (S .rights) m) ed }
 
--- the engine's question is asked where nothing is refused
-pub goal-asked : (p : Policy) (G : Goal) (n : ℕ) → sizeRefusal (systemOf p) (stateOf (p .matrix)) n ≡ 0 → PolicyFits p → GoalFits G → Asked p G n
-goal-asked p G n e F H = record {
+-- the engine's question is asked where nothing is refused, of commands of one operation, few names that are taken, and room for the steps
+pub goal-asked : (p : Policy) (G : Goal) (n : ℕ) → singleOperations (systemOf p .commands) ≡ true → takenNames (reservedBy G) (stateOf (p .matrix)) ≤ startNames → 5 * boundOf p ≤ n → PolicyFits p → GoalFits G → Asked p G n
+goal-asked p G n one few room F H = record {
   fits = F;
   goal = H;
   single = record {
     one-step = λ i l.
-        let whole : all (oneOperation p) (p .commands) 0 ≡ true = sym (single-all p F (p .commands) 0 (omega arith)) ∙ P .single in
+        let whole : all (oneOperation p) (p .commands) 0 ≡ true = sym (single-all p F (p .commands) 0 (omega arith)) ∙ one in
         let few : getD (p .command) i missing .operations < 2 = ltb→lt (getD (p .command) i missing .operations) 2 (test-holds (oneOperation p i) (all-at (oneOperation p) (p .commands) 0 whole i (omega arith) (omega arith))) in
         omega (arith, F .commands-fit i l .some-operation);
   };
-  few-names = P .few-names;
-  room = P .room;
+  few-names = few;
+  room = room;
 }
-  where
-    P : Sized (systemOf p) (stateOf (p .matrix)) n
-    P = sized (systemOf p) (stateOf (p .matrix)) n e
+
+-- with no name reserved
+pub open-asked : (p : Policy) (G : Goal) (n : ℕ) → G .reserved ≡ 0 → sizeRefusal (systemOf p) (stateOf (p .matrix)) n ≡ 0 → PolicyFits p → GoalFits G → Asked p G n
+open-asked p G n z e F H =
+    let P = sized (systemOf p) (stateOf (p .matrix)) n e in
+    goal-asked p G n (P .single) (subst (λ (R : ℕ → Bool). takenNames R (stateOf (p .matrix)) ≤ startNames) (sym (none-reserved (G .reserved) z)) (P .few-names)) (P .room) F H

@@ -19,7 +19,7 @@ use Rattle.protection.specs.Size.{namesOf}
 use Rattle.protection.specs.Command.{Command, System, Call, Actuals, spare}
 use Rattle.protection.specs.Execution.{unbounded, actualFits}
 use Rattle.protection.specs.Leak.{leaks, anyRefused, init, LeaksLast}
-use Rattle.protection.specs.Judge.{leakOf, round, conclude, allRounds, judge}
+use Rattle.protection.specs.Judge.{noneReserved, leakOf, round, conclude, allRounds, judgeBeside}
 use Rattle.protection.proofs.Consequences.{settled-still}
 use Rattle.policy.specs.Contents.{fileState, fileSystem}
 use Rattle.trace.specs.Traces.{stepCall, calls}
@@ -128,12 +128,12 @@ module _ (f : List ℕ) (r : ℕ) (b : List ℕ) (answer : Judgement) (b' : List
 
   -- under safe the rounds went on until a whole round did nothing
   pub safe-still : (k : ℕ) → answer ≡ Safe k → round S (leakOf r) (allRounds S (leakOf r) m) ≡ allRounds S (leakOf r) m
-  unfolding judge
+  unfolding judgeBeside
   safe-still k e =
       let z = safe-given k e in
       settled-still S (leakOf r) m (J .settled z) (go (allRounds S (leakOf r) m .ended) refl (sym (judges f r (length b) z) ∙ sym (J .answer-is) ∙ e))
     where
-      go : (u : Bool) → allRounds S (leakOf r) m .ended ≡ u → judgementOf (conclude S r m (allRounds S (leakOf r) m)) ≡ Safe k → T (not (allRounds S (leakOf r) m .ended))
+      go : (u : Bool) → allRounds S (leakOf r) m .ended ≡ u → judgementOf (conclude S noneReserved r m (allRounds S (leakOf r) m)) ≡ Safe k → T (not (allRounds S (leakOf r) m .ended))
       go false d q = rw d tt
       go true d q = absurd (let p : Unsafe (length (allRounds S (leakOf r) m .steps)) ≡ Safe k = rw d at q in let w : _≡_ {A = ℕ} 0 1 = cc in omega arith)
 

@@ -16,7 +16,8 @@ use Rattle.protection.specs.Size.{stepBound}
 use Rattle.protection.specs.Command.{System, Call}
 use Rattle.protection.specs.Execution.{bounded, unbounded}
 use Rattle.protection.specs.Leak.{LeaksLast}
-use Rattle.protection.specs.Judge.{leakOf, Verdict, judge, Settled}
+use Rattle.rights.specs.Rights.{has}
+use Rattle.protection.specs.Judge.{noneReserved, leakOf, Verdict, judgeBeside, Settled}
 use Rattle.protection.proofs.Names.{every-name}
 use Rattle.protection.proofs.Saturation.{Taken, rounds-settled}
 use Rattle.protection.proofs.Safety.{unsafe-steps-bounded, unsafe-steps, safe-never, decides, within-bound}
@@ -35,6 +36,7 @@ use Rattle.trace.specs.Replays.{fileReplay}
 use Rattle.trace.specs.declared.Replay.the-variants.{Leak}
 use Rattle.trace.proofs.Laws.{Replayed, replay-leak}
 use Rattle.goals.specs.Goals.{leakGoal}
+use Rattle.goals.proofs.Ending.{none-reserved}
 use Rattle.visits.specs.Engine.{Asked}
 use Rattle.visits.proofs.Asked.{taken}
 use Rattle.questions.proofs.Refusals.{sized}
@@ -48,7 +50,7 @@ use Rattle.safety.proofs.Refusals.{Passed, passed, none-refused, judges
 use Rattle.safety.proofs.Consequences.{some-step}
 
 -- ---- the verdict as the answer
-told : (v : Verdict) → (isUnsafe (judgementOf v) ≡ v .unsafe) × (isSafe (judgementOf v) ≡ not (v .unsafe)) × (stepsWritten (judgementOf v) ≡ length (v .steps))
+pub told : (v : Verdict) → (isUnsafe (judgementOf v) ≡ v .unsafe) × (isSafe (judgementOf v) ≡ not (v .unsafe)) × (stepsWritten (judgementOf v) ≡ length (v .steps))
 told v = go (v .unsafe)
   where
     n : ℕ
@@ -58,19 +60,19 @@ told v = go (v .unsafe)
     go true = (refl, refl, refl)
     go false = (refl, refl, refl)
 
-module _ (S : System) (r : ℕ) (m : State) (K : Taken S m) (b : List ℕ) (fits : 5 * stepBound (S .rights) m ≤ length b) where
+module _ (S : System) (R : ℕ → Bool) (r : ℕ) (m : State) (K : Taken S R m) (b : List ℕ) (fits : 5 * stepBound (S .rights) m ≤ length b) where
   abbrev v : Verdict
-  v = judge S r m
+  v = judgeBeside S R r m
 
   -- of the judge's own answer and buffer
   pub verdict-demand3 : Demand3 S r m b (judgementOf v) (filled (v .steps) b)
   verdict-demand3 = record {
     every-name = every-name;
-    unsafe-exactly = (λ t. decides S r m K .0 (subst T (told v .0) t), λ w. subst T (sym (told v .0)) (decides S r m K .1 w));
-    safe-exactly = (λ t. safe-never S r m K (subst T (told v .1) t), λ never. subst T (sym (told v .1)) (safe-if (v .unsafe) (λ t. never (v .steps) (unsafe-steps S r m K t .leak))));
-    steps-leak = λ t. subst (LeaksLast unbounded S r m) (sym (ap (calls (filled (v .steps) b)) (told v .2) ∙ calls-back (v .steps) (drop (5 * length (v .steps)) b))) (unsafe-steps S r m K (subst T (told v .0) t));
-    within = subst (λ (k : ℕ). k ≤ stepBound (S .rights) m) (sym (told v .2)) (within-bound S r m K);
-    room = omega (arith, told v .2, within-bound S r m K);
+    unsafe-exactly = (λ t. decides S R r m K .0 (subst T (told v .0) t), λ w. subst T (sym (told v .0)) (decides S R r m K .1 w));
+    safe-exactly = (λ t. safe-never S R r m K (subst T (told v .1) t), λ never. subst T (sym (told v .1)) (safe-if (v .unsafe) (λ t. never (v .steps) (unsafe-steps S R r m K t .leak))));
+    steps-leak = λ t. subst (LeaksLast unbounded S r m) (sym (ap (calls (filled (v .steps) b)) (told v .2) ∙ calls-back (v .steps) (drop (5 * length (v .steps)) b))) (unsafe-steps S R r m K (subst T (told v .0) t));
+    within = subst (λ (k : ℕ). k ≤ stepBound (S .rights) m) (sym (told v .2)) (within-bound S R r m K);
+    room = omega (arith, told v .2, within-bound S R r m K);
     rest = ap (λ (k : ℕ). drop (5 * k) (filled (v .steps) b)) (told v .2) ∙ rest-behind (v .steps) (drop (5 * length (v .steps)) b) ∙ ap (λ (k : ℕ). drop (5 * k) b) (sym (told v .2));
   }
     where
@@ -81,58 +83,58 @@ module _ (S : System) (r : ℕ) (m : State) (K : Taken S m) (b : List ℕ) (fits
 -- ---- a file: what the judge answers where nothing is refused
 module _ (f : List ℕ) (r : ℕ) (b : List ℕ) where
   module _ (z : judgeRefusal f r (length b) ≡ 0) where
-    accepted-file : Accepted f
+    pub accepted-file : Accepted f
     accepted-file = accepted f (none-refused f r (length b) z .0)
 
-    not-refused : Passed (fileSystem f) (fileState f) r (length b)
+    pub not-refused : Passed (fileSystem f) (fileState f) r (length b)
     not-refused = passed (fileSystem f) (fileState f) r (length b) (none-refused f r (length b) z .1)
 
-    file-taken : Taken (fileSystem f) (fileState f)
+    pub file-taken : Taken (fileSystem f) noneReserved (fileState f)
     unfolding policyOf
-    file-taken = taken (policyOf f) (leakGoal r) (length b) (question-asked (policyOf f) r (length b) (none-refused f r (length b) z .1) (policy-fits f accepted-file))
+    file-taken = subst (λ (R : ℕ → Bool). Taken (fileSystem f) R (fileState f)) (none-reserved 0 refl) (taken (policyOf f) (leakGoal 0 r) (length b) (question-asked (policyOf f) r (length b) (none-refused f r (length b) z .1) (policy-fits f accepted-file)))
 
   -- the theorem: demand 3, for every file, right and buffer that is not refused
   pub judge-demand3 : FileDemand3 f r b (fileJudgement f r (length b)) (fileBuffer f r b)
   judge-demand3 z = subst (λ (w : Judgement). Demand3 (fileSystem f) r (fileState f) b w (fileBuffer f r b)) (sym (judges f r (length b) z))
-      (subst (Demand3 (fileSystem f) r (fileState f) b (judgementOf (fileVerdict f r))) (sym (fills f r b z)) (verdict-demand3 (fileSystem f) r (fileState f) (file-taken z) b (sized (fileSystem f) (fileState f) (length b) (not-refused z .size) .room)))
+      (subst (Demand3 (fileSystem f) r (fileState f) b (judgementOf (fileVerdict f r))) (sym (fills f r b z)) (verdict-demand3 (fileSystem f) noneReserved r (fileState f) (file-taken z) b (sized (fileSystem f) (fileState f) (length b) (not-refused z .size) .room)))
 
   pub judge-settled : judgeRefusal f r (length b) ≡ 0 → Settled (fileSystem f) (leakOf r) (fileState f)
   judge-settled z = rounds-settled (fileSystem f) (leakOf r) (fileState f) (file-taken z)
 
-  -- ---- the steps replay
-  module _ (z : judgeRefusal f r (length b) ≡ 0) (t : T (fileVerdict f r .unsafe)) where
+  -- ---- steps that leak last on the file's matrix replay
+  module _ (z : judgeRefusal f r (length b) ≡ 0) (v : Verdict) (last : T (v .unsafe) → LeaksLast bounded (fileSystem f) r (fileState f) (v .steps)) where
     abbrev steps : List Call
-    steps = fileVerdict f r .steps
-
-    leaks-bounded : LeaksLast bounded (fileSystem f) r (fileState f) steps
-    leaks-bounded = unsafe-steps-bounded (fileSystem f) r (fileState f) (file-taken z) t
+    steps = v .steps
 
     whole-steps : Replayed f (bytesOf steps) r
     unfolding policyOf
     whole-steps = record { file = none-refused f r (length b) z .0; right = not-refused z .below; whole = let n = bytes-length steps in omega arith }
 
-    steps-replay : fileReplay f (bytesOf steps) r ≡ Leak (length steps - 1)
-    steps-replay =
-        let some : 1 ≤ length steps = some-step bounded (fileSystem f) r (fileState f) steps leaks-bounded in
+    steps-replay : T (v .unsafe) → fileReplay f (bytesOf steps) r ≡ Leak (length steps - 1)
+    steps-replay t =
+        let some : 1 ≤ length steps = some-step bounded (fileSystem f) r (fileState f) steps (last t) in
         let n = bytes-length steps in
-        let last : suc (length steps - 1) ≡ length steps = omega arith in
-        let same : calls (bytesOf steps) (suc (length steps - 1)) ≡ steps = ap (calls (bytesOf steps)) last ∙ ap (λ (l : List ℕ). calls l (length steps)) (sym (append-nil (bytesOf steps))) ∙ calls-back steps [] in
-        replay-leak f (bytesOf steps) r whole-steps (length steps - 1) .1 (omega arith, subst (LeaksLast bounded (fileSystem f) r (fileState f)) (sym same) leaks-bounded)
+        let final : suc (length steps - 1) ≡ length steps = omega arith in
+        let same : calls (bytesOf steps) (suc (length steps - 1)) ≡ steps = ap (calls (bytesOf steps)) final ∙ ap (λ (l : List ℕ). calls l (length steps)) (sym (append-nil (bytesOf steps))) ∙ calls-back steps [] in
+        replay-leak f (bytesOf steps) r whole-steps (length steps - 1) .1 (omega arith, subst (LeaksLast bounded (fileSystem f) r (fileState f)) (sym same) (last t))
+
+    pub verdict-replays : (n : ℕ) → judgementOf v ≡ Unsafe n → fileReplay f (take (5 * n) (filled steps b)) r ≡ Leak (n - 1)
+    verdict-replays n = go (v .unsafe) refl
+      where
+        go : (u : Bool) → v .unsafe ≡ u → pick u (Unsafe (length steps)) (Safe (length steps)) ≡ Unsafe n → fileReplay f (take (5 * n) (filled steps b)) r ≡ Leak (n - 1)
+        go true d q =
+            let many : length steps ≡ n = cc in
+            let front : take (5 * n) (filled steps b) ≡ bytesOf steps = ap (λ (k : ℕ). take (5 * k) (filled steps b)) (sym many) ∙ front-bytes steps (drop (5 * length steps) b) in
+            ap (λ (l : List ℕ). fileReplay f l r) front ∙ steps-replay (test-holds (v .unsafe) d) ∙ ap (λ (k : ℕ). Leak (k - 1)) many
+        go false d q = absurd (let w : _≡_ {A = ℕ} 0 1 = cc in omega arith)
 
   pub judge-replays : (n : ℕ) → fileJudgement f r (length b) ≡ Unsafe n → fileReplay f (take (5 * n) (fileBuffer f r b)) r ≡ Leak (n - 1)
   judge-replays n e = go (ℕ-discrete (judgeRefusal f r (length b)) 0)
     where
-      by : (z : judgeRefusal f r (length b) ≡ 0) (u : Bool) → fileVerdict f r .unsafe ≡ u → pick u (Unsafe (length (fileVerdict f r .steps))) (Safe (length (fileVerdict f r .steps))) ≡ Unsafe n
-          → fileReplay f (take (5 * n) (fileBuffer f r b)) r ≡ Leak (n - 1)
-      by z true d q =
-          let many : length (fileVerdict f r .steps) ≡ n = cc in
-          let front : take (5 * n) (fileBuffer f r b) ≡ bytesOf (fileVerdict f r .steps) =
-          ap₂ (λ (k : ℕ) (l : List ℕ). take (5 * k) l) (sym many) (fills f r b z) ∙ front-bytes (fileVerdict f r .steps) (drop (5 * length (fileVerdict f r .steps)) b) in
-          ap (λ (l : List ℕ). fileReplay f l r) front ∙ steps-replay z (test-holds (fileVerdict f r .unsafe) d) ∙ ap (λ (k : ℕ). Leak (k - 1)) many
-      by z false d q = absurd (let w : _≡_ {A = ℕ} 0 1 = cc in omega arith)
-
       go : Dec (judgeRefusal f r (length b) ≡ 0) → fileReplay f (take (5 * n) (fileBuffer f r b)) r ≡ Leak (n - 1)
-      go (yes z) = by z (fileVerdict f r .unsafe) refl (sym (judges f r (length b) z) ∙ e)
+      go (yes z) =
+          ap (λ (l : List ℕ). fileReplay f (take (5 * n) l) r) (fills f r b z)
+          ∙ verdict-replays z (fileVerdict f r) (unsafe-steps-bounded (fileSystem f) noneReserved r (fileState f) (file-taken z)) n (sym (judges f r (length b) z) ∙ e)
       go (no ne) = absurd (let q : Refused (judgeRefusal f r (length b)) ≡ Unsafe n = sym (refuses f r (length b) ne) ∙ e in let w : _≡_ {A = ℕ} 0 1 = cc in omega arith)
 
   -- so the two equations are the whole promise
@@ -152,18 +154,21 @@ module _ (f : List ℕ) (r : ℕ) (b : List ℕ) where
   refused-with k ne e = let z : eqb k 0 ≡ false = ne-eqb k 0 ne in judged f r b (Refused k) b (rw (e, z)) (rw (e, z))
 
   module _ (x : PolicyRead) (d : x ≡ policyRead f) where
-    pub file-refused : (x .refused ≡ 0 → ⊥) → Judged f r b (Refused (x .refused)) b
+    pub refusal-first : (x .refused ≡ 0 → ⊥) → judgeRefusal f r (length b) ≡ x .refused
     unfolding judgeRefusal
-    file-refused ne =
+    refusal-first ne =
         let w : refusal f ≡ x .refused = sym (read-refusal f x d) in
         let z : eqb (x .refused) 0 ≡ false = ne-eqb (x .refused) 0 ne in
-        refused-with (x .refused) ne (rw (w, z))
+        rw (w, z)
+
+    pub file-refused : (x .refused ≡ 0 → ⊥) → Judged f r b (Refused (x .refused)) b
+    file-refused ne = refused-with (x .refused) ne (refusal-first ne)
 
     module _ (z : x .refused ≡ 0) where
-      policy-is : x .policy ≡ policyOf f
+      pub policy-is : x .policy ≡ policyOf f
       policy-is = read-policy f x d z
 
-      refusal-is : (k : ℕ) → k ≡ callerRefusal (systemOf (x .policy)) (stateOf (x .policy .matrix)) r (length b) → judgeRefusal f r (length b) ≡ k
+      pub refusal-is : (k : ℕ) → k ≡ callerRefusal (systemOf (x .policy)) (stateOf (x .policy .matrix)) r (length b) → judgeRefusal f r (length b) ≡ k
       unfolding judgeRefusal policyOf
       refusal-is k e =
           let a : refusal f ≡ 0 = sym (read-refusal f x d) ∙ z in
@@ -174,17 +179,17 @@ module _ (f : List ℕ) (r : ℕ) (b : List ℕ) where
       caller-refused k e ne = refused-with k ne (refusal-is k e)
 
       module _ (k : ℕ) (e : k ≡ callerRefusal (systemOf (x .policy)) (stateOf (x .policy .matrix)) r (length b)) (n : k ≡ 0) where
-        pub file-asked : Asked (x .policy) (leakGoal r) (length b)
+        pub file-asked : Asked (x .policy) (leakGoal 0 r) (length b)
         file-asked = question-asked (x .policy) r (length b) (sym e ∙ n) (policy-fits-read f x d z)
 
         pub file-below : r < x .policy .rights
         file-below = passed (systemOf (x .policy)) (stateOf (x .policy .matrix)) r (length b) (sym e ∙ n) .below
 
-        verdict-is : judge (systemOf (x .policy)) r (stateOf (x .policy .matrix)) ≡ fileVerdict f r
+        verdict-is : judgeBeside (systemOf (x .policy)) (has 0) r (stateOf (x .policy .matrix)) ≡ fileVerdict f r
         unfolding policyOf
-        verdict-is = ap (λ (p : Policy). judge (systemOf p) r (stateOf (p .matrix))) policy-is
+        verdict-is = ap₂ (λ (R : ℕ → Bool) (p : Policy). judgeBeside (systemOf p) R r (stateOf (p .matrix))) (none-reserved 0 refl) policy-is
 
-        pub file-judged : (answer : Judgement) (b' : List ℕ) → Concluded (x .policy) r b answer b' → Judged f r b answer b'
+        pub file-judged : (answer : Judgement) (b' : List ℕ) → Concluded (x .policy) 0 r b answer b' → Judged f r b answer b'
         file-judged answer b' C =
             let q : judgeRefusal f r (length b) ≡ 0 = refusal-is k e ∙ n in
             judged f r b answer b' (C .answer-is ∙ ap judgementOf verdict-is ∙ sym (judges f r (length b) q)) (C .buffer-is ∙ ap (λ (w : Verdict). filled (w .steps) b) verdict-is ∙ sym (fills f r b q))

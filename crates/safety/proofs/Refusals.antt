@@ -4,7 +4,7 @@ use mathlib.Core.Path.{_≡_, refl, sym, _∙_}
 use mathlib.Core.Bool.{Bool, true, false}
 use mathlib.Core.List.{List}
 use native.Mathlib.Omega.{arith}
-use native.Mathlib.Decide.{ℕ-discrete, decLt}
+use native.Mathlib.Decide.{decLt}
 use borrow.Author.Tests.{le-leb, lt-leb, eq-eqb, ne-eqb}
 use lib.Dec.{leb}
 use lib.ListN.{length}
@@ -12,6 +12,7 @@ use Rattle.cases.specs.Cases.{pick}
 use Rattle.protection.specs.State.{State}
 use Rattle.protection.specs.Command.{System}
 use Rattle.matrix.specs.Matrices.{stateOf}
+use Rattle.layout.proofs.OrElse.{either}
 use Rattle.policy.specs.Refusals.{refusal}
 use Rattle.policy.specs.Contents.{systemOf, fileState, fileSystem}
 use Rattle.policy.specs.Fits.{PolicyFits}
@@ -19,8 +20,9 @@ use Rattle.policy.specs.declared.Policy.{Policy}
 use Rattle.goals.specs.Goals.{leakGoal, GoalFits}
 use Rattle.visits.specs.Engine.{Asked}
 use Rattle.questions.specs.Refusals.{sizeRefusal}
-use Rattle.questions.proofs.Refusals.{Sized, sized, goal-asked}
-use Rattle.safety.specs.Judgement.{callerRefusal, judgeRefusal, fileVerdict, judgementOf, fileJudgement, filled, fileBuffer}
+use Rattle.questions.proofs.Refusals.{Sized, sized, open-asked}
+use Rattle.protection.specs.Judge.{Verdict}
+use Rattle.safety.specs.Judgement.{callerRefusal, judgeRefusal, fileVerdict, judgementOf, judgementBy, fileJudgement, filled, bufferBy, fileBuffer}
 use Rattle.safety.specs.declared.Judgement.the-variants.{Refused}
 
 -- ---- what the code tests, one after the other
@@ -62,37 +64,44 @@ passed S m r n e = go (leb (S .rights) r) refl e
 -- where the judge refuses nothing, neither whoever wrote the file nor whoever calls is refused
 pub none-refused : (f : List ℕ) (r n : ℕ) → judgeRefusal f r n ≡ 0 → (refusal f ≡ 0) × (callerRefusal (fileSystem f) (fileState f) r n ≡ 0)
 unfolding judgeRefusal
-none-refused f r n e = go (ℕ-discrete (refusal f) 0)
-  where
-    by : ℕ
-    by = callerRefusal (fileSystem f) (fileState f) r n
+none-refused f r n e = either (refusal f) (callerRefusal (fileSystem f) (fileState f) r n) e
 
-    go : Dec (refusal f ≡ 0) → (refusal f ≡ 0) × (by ≡ 0)
-    go (yes z) = (z, sym (rw (eq-eqb (refusal f) 0 z)) ∙ e)
-    go (no z) = absurd (z (sym (rw (ne-eqb (refusal f) 0 z)) ∙ e))
+-- ---- the answer, and the buffer after it, by the refusal k
+module _ (k : ℕ) (v : Verdict) where
+  pub answers : k ≡ 0 → judgementBy k v ≡ judgementOf v
+  answers z = rw (eq-eqb k 0 z)
 
--- ---- the judge's answer, and the buffer after it
+  pub turned-down : (k ≡ 0 → ⊥) → judgementBy k v ≡ Refused k
+  turned-down z = rw (ne-eqb k 0 z)
+
+  pub writes : (b : List ℕ) → k ≡ 0 → bufferBy k v b ≡ filled (v .steps) b
+  writes b z = rw (eq-eqb k 0 z)
+
+  pub untouched : (b : List ℕ) → (k ≡ 0 → ⊥) → bufferBy k v b ≡ b
+  untouched b z = rw (ne-eqb k 0 z)
+
+-- of the judge
 module _ (f : List ℕ) (r n : ℕ) where
   pub judges : judgeRefusal f r n ≡ 0 → fileJudgement f r n ≡ judgementOf (fileVerdict f r)
   unfolding fileJudgement
-  judges z = rw (eq-eqb (judgeRefusal f r n) 0 z)
+  judges z = answers (judgeRefusal f r n) (fileVerdict f r) z
 
   pub refuses : (judgeRefusal f r n ≡ 0 → ⊥) → fileJudgement f r n ≡ Refused (judgeRefusal f r n)
   unfolding fileJudgement
-  refuses z = rw (ne-eqb (judgeRefusal f r n) 0 z)
+  refuses z = turned-down (judgeRefusal f r n) (fileVerdict f r) z
 
 module _ (f : List ℕ) (r : ℕ) (b : List ℕ) where
   pub fills : judgeRefusal f r (length b) ≡ 0 → fileBuffer f r b ≡ filled (fileVerdict f r .steps) b
   unfolding fileBuffer
-  fills z = rw (eq-eqb (judgeRefusal f r (length b)) 0 z)
+  fills z = writes (judgeRefusal f r (length b)) (fileVerdict f r) b z
 
   pub kept : (judgeRefusal f r (length b) ≡ 0 → ⊥) → fileBuffer f r b ≡ b
   unfolding fileBuffer
-  kept z = rw (ne-eqb (judgeRefusal f r (length b)) 0 z)
+  kept z = untouched (judgeRefusal f r (length b)) (fileVerdict f r) b z
 
 -- ---- the engine's question is asked where nothing is refused
-pub leak-fits : (r : ℕ) → GoalFits (leakGoal r)
-leak-fits r = record { few = omega arith; all = λ j l. absurd (omega (arith, l)) }
+pub leak-fits : (z r : ℕ) → GoalFits (leakGoal z r)
+leak-fits z r = record { few = omega arith; all = λ j l. absurd (omega (arith, l)) }
 
-pub question-asked : (p : Policy) (r n : ℕ) → callerRefusal (systemOf p) (stateOf (p .matrix)) r n ≡ 0 → PolicyFits p → Asked p (leakGoal r) n
-question-asked p r n e F = goal-asked p (leakGoal r) n (passed (systemOf p) (stateOf (p .matrix)) r n e .size) F (leak-fits r)
+pub question-asked : (p : Policy) (r n : ℕ) → callerRefusal (systemOf p) (stateOf (p .matrix)) r n ≡ 0 → PolicyFits p → Asked p (leakGoal 0 r) n
+question-asked p r n e F = open-asked p (leakGoal 0 r) n refl (passed (systemOf p) (stateOf (p .matrix)) r n e .size) F (leak-fits 0 r)

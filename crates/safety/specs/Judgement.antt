@@ -37,8 +37,12 @@ fileVerdict f r = judge (fileSystem f) r (fileState f)
 abbrev pub judgementOf : Verdict → Judgement
 judgementOf v = pick (v .unsafe) (Unsafe (length (v .steps))) (Safe (length (v .steps)))
 
+-- the refusal, if it is not 0, comes before the verdict
+abbrev pub judgementBy : ℕ → Verdict → Judgement
+judgementBy refused v = pick (eqb refused 0) (judgementOf v) (Refused refused)
+
 unfoldable pub fileJudgement : List ℕ → ℕ → ℕ → Judgement
-fileJudgement f r n = pick (eqb (judgeRefusal f r n) 0) (judgementOf (fileVerdict f r)) (Refused (judgeRefusal f r n))
+fileJudgement f r n = judgementBy (judgeRefusal f r n) (fileVerdict f r)
 
 -- at the C boundary: 0 safe, 255 unsafe, else the refusal; the steps written are `stepsWritten`, 0 where refused
 abbrev pub judgementCode : Judgement → ℕ
@@ -56,8 +60,11 @@ abbrev pub filled : List Call → List ℕ → List ℕ
 filled xs b = bytesOf xs ++ drop (5 * length xs) b
 
 -- "A refusal .. changes no lent byte."
+abbrev pub bufferBy : ℕ → Verdict → List ℕ → List ℕ
+bufferBy refused v b = pick (eqb refused 0) (filled (v .steps) b) b
+
 unfoldable pub fileBuffer : List ℕ → ℕ → List ℕ → List ℕ
-fileBuffer f r b = pick (eqb (judgeRefusal f r (length b)) 0) (filled (fileVerdict f r .steps) b) b
+fileBuffer f r b = bufferBy (judgeRefusal f r (length b)) (fileVerdict f r) b
 
 -- ---- the promise
 -- demand 3 on a file: where nothing is refused, of the answer and the buffer after it

@@ -6,13 +6,15 @@ use reference::desk::desk;
 use reference::file::{self, Contents};
 use reference::filled::Course;
 use reference::generate::*;
-use reference::judge::{judge, SAFE, UNSAFE};
+use reference::judge::{judge, judge_part, SAFE, UNSAFE};
 use reference::machine::{numbers, run, run_file, AccessMatrix, Bounded, Unbounded};
 use reference::need::{need, NEVER};
 use reference::random::Random;
 use reference::replay::{replay, LEAK};
 use reference::report::{hex, Arguments, Group, Report};
 use reference::rounds::most_steps;
+use reference::trusted::office;
+use reference::verdict::Question;
 use reference::{lists, second, stored, table};
 
 /// A draft with these kinds and these rights in cells.
@@ -371,13 +373,18 @@ fn main() {
         },
     );
 
-    report.group("reference and second judge agree", 150, |group| {
-        let mut spare = 0;
-        while group.inputs < 150 {
-            let (draft, right) = match group.inputs % 3 {
+    report.group("reference and second judge agree", 300, |group| {
+        let (mut spare, mut parts) = (0, 0);
+        while group.inputs < 300 {
+            let (mut draft, right) = match group.inputs % 3 {
                 0 => (small(random), 0),
                 1 => large(random),
                 _ => chain(random),
+            };
+            // Of the whole, and without trusted names.
+            let trusted = match group.inputs % 2 {
+                0 => Vec::new(),
+                _ => office(random, &mut draft),
             };
             let file = draft.file();
             // The second judge is slow on three blanks.
@@ -387,19 +394,26 @@ fn main() {
             }
             let mut one = vec![170; reference::desk::BUFFER];
             let mut other = one.clone();
-            let account = judge(&file, right, &mut one);
-            let answer = second::judge(&file, right, &mut other);
+            let account = judge_part(&file, right, &trusted, &mut one);
+            let answer = second::judge_part(&file, right, &trusted, &mut other);
             group.input(
                 (account.code, account.steps) == answer && one == other,
-                || format!("{account:?} and {answer:?}, right {right}, {}", hex(&file)),
+                || {
+                    let asked = Question::new(&file, right).without(&trusted);
+                    format!("{account:?} and {answer:?}, {}", asked.shown())
+                },
             );
             group.demand(matches!(account.code, SAFE | UNSAFE), || {
                 format!("refused {}", account.code)
             });
             spare += u64::from(account.spare > 0);
+            parts += u64::from(!trusted.is_empty() && account.steps > 0);
         }
-        group.demand(spare >= 40, || {
+        group.demand(spare >= 80, || {
             format!("only {spare} with a step of a rule with spare blanks")
+        });
+        group.demand(parts >= 50, || {
+            format!("only {parts} with a step without trusted names")
         });
     });
 

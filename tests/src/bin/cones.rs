@@ -17,7 +17,7 @@ enum Promise {
 }
 
 /// The rows of the table, with their demands.
-const ROWS: [(&str, &str, Promise); 9] = [
+const ROWS: [(&str, &str, Promise); 10] = [
     (
         "1",
         "`access_check`",
@@ -47,6 +47,11 @@ const ROWS: [(&str, &str, Promise); 9] = [
         "3",
         "`Demand3` alone",
         Promise::Definitions("safety/specs/Demand3.antt"),
+    ),
+    (
+        "1, 3",
+        "`access_judge_part`",
+        Promise::Contract("exports/src/lib.rt", "access_judge_part"),
     ),
     (
         "1",

@@ -8,6 +8,7 @@ use reference::generate::*;
 use reference::random::Random;
 use reference::report::{hex, Arguments, Group, Report};
 use reference::stack::used;
+use reference::trusted::any_names;
 use reference::{file, scene};
 use std::fs;
 use std::path::{Path, PathBuf};
@@ -20,6 +21,8 @@ mod check;
 mod judge;
 #[path = "../boundary/need.rs"]
 mod need;
+#[path = "../boundary/part.rs"]
+mod part;
 #[path = "../boundary/replay.rs"]
 mod replay;
 #[path = "../boundary/run.rs"]
@@ -131,7 +134,7 @@ fn refusals_page(group: &mut Group) {
     let wanted: Vec<String> = (1..=9)
         .chain(11..=15)
         .chain(21..=24)
-        .chain([31, 41])
+        .chain([31, 41, 42])
         .map(|number: u8| number.to_string())
         .collect();
     group.demand(numbers == wanted, || format!("the numbers are {numbers:?}"));
@@ -253,7 +256,7 @@ fn defined(name: &str) -> usize {
 
 /// No call uses more stack than the header says, nor less than a fourth of it.
 fn stack(group: &mut Group, random: &mut Random) {
-    let mut most = [0; 5];
+    let mut most = [0; 6];
     let mut seen = |call: usize, bytes: usize| most[call] = bytes.max(most[call]);
     let mut buffer = vec![0; defined("TUGCAPHI_BUFFER")];
     for turn in 0..60 {
@@ -275,6 +278,12 @@ fn stack(group: &mut Group, random: &mut Random) {
             );
             let trace = &buffer[..5 * steps as usize];
             seen(2, used(|| _ = replay::replay(&file, trace, right)));
+            let matrix = file::read(&file).expect("an accepted file").matrix;
+            let list = any_names(random, &matrix);
+            seen(
+                5,
+                used(|| _ = part::judge_part(&file, right, &list, &mut buffer)),
+            );
         }
         let names: Vec<u8> = (0..32).filter(|&n| draft.kinds[n as usize] == 2).collect();
         for cells in [0, 1, 8] {
@@ -288,8 +297,8 @@ fn stack(group: &mut Group, random: &mut Random) {
         group.inputs += 1;
     }
     println!(
-        "  check {}, run {}, replay {}, judge {}, need {} bytes",
-        most[0], most[1], most[2], most[3], most[4]
+        "  check {}, run {}, replay {}, judge {}, need {}, part {} bytes",
+        most[0], most[1], most[2], most[3], most[4], most[5]
     );
     let said = defined("TUGCAPHI_STACK");
     let highest = most.into_iter().max().unwrap_or_default();
@@ -310,6 +319,8 @@ fn buffer_length(group: &mut Group) {
         group.input(code == wanted, || format!("judge, {length} bytes: {code}"));
         let code = need::need(&file, &[0, 0, 0], &mut vec![0; length]).0;
         group.input(code == wanted, || format!("need, {length} bytes: {code}"));
+        let code = part::judge_part(&file, 0, &[0], &mut vec![0; length]).0;
+        group.input(code == wanted, || format!("part, {length} bytes: {code}"));
     }
 }
 
@@ -380,7 +391,7 @@ fn main() {
     report.group("docs/FORMAT.md: the worked example", 7, format_page);
     report.group("docs/REFUSALS.md: the program's words", 20, refusals_page);
     report.group("include/tugcaphi.h and its example", 3, header);
-    report.group("include/tugcaphi.h: the buffer", 4, buffer_length);
+    report.group("include/tugcaphi.h: the buffer", 6, buffer_length);
     report.group("include/tugcaphi.h: the list of cells", 4, list_length);
     report.group("install", 4, install);
     report.group("README.md: the crates of a build", 1, crates_of_a_build);

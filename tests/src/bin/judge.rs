@@ -6,15 +6,15 @@ mod boundary_judge;
 #[path = "../boundary/replay.rs"]
 mod boundary_replay;
 
-use reference::brute::{search, Found, Search};
-use reference::damage::{plant, Fault};
+use reference::brute::{exhausted, Found, Search};
 use reference::file::{self, Contents};
 use reference::generate::*;
 use reference::judge::{Account, SAFE, UNSAFE};
+use reference::obstacles::{obstruct, wrong_file};
 use reference::random::Random;
 use reference::report::{hex, Arguments, Counts, Group, Report};
 use reference::second;
-use reference::verdict::{compare, needed, Library};
+use reference::verdict::{compare, needed, Library, Question};
 
 /// More states than this are given up; nothing is known of such a table.
 const LIMIT: usize = 3_000;
@@ -63,12 +63,12 @@ fn main() {
     let arguments = Arguments::read("judge");
     let library = if arguments.own {
         Library {
-            judge: second::judge,
+            judge: |asked, buffer| second::judge(asked.file, asked.right, buffer),
             replay: second::replay,
         }
     } else {
         Library {
-            judge: boundary_judge::judge,
+            judge: |asked, buffer| boundary_judge::judge(asked.file, asked.right, buffer),
             replay: boundary_replay::replay,
         }
     };
@@ -80,9 +80,9 @@ fn main() {
     report.group("P1 to P8", 9, |group| {
         let mut try_case = |draft: &Draft, right: u8, length: usize, code: u8, steps: &[u8]| {
             let file = draft.file();
-            let (account, _) = compare(group, library, random, &file, right, length);
+            let (account, _) = compare(group, library, random, Question::new(&file, right), length);
             let mut buffer = vec![0; length];
-            let answer = (library.judge)(&file, right, &mut buffer);
+            let answer = (library.judge)(Question::new(&file, right), &mut buffer);
             let good = answer == (code, steps.len() as u64 / 5)
                 && account.code == code
                 && buffer.starts_with(steps);
@@ -137,18 +137,11 @@ fn main() {
             let file = draft.file();
             let contents = file::read(&file).unwrap();
             let right = if random.percent(80) { 0 } else { draft.rights - 1 };
-            // Three further names if that can be exhausted, else two.
-            let mut further = 3;
-            let mut brute = search(&contents, right, further, LIMIT);
-            if brute.found == Found::TooMany {
-                further = 2;
-                brute = search(&contents, right, further, LIMIT);
-            }
-            let Search { found, states, .. } = brute;
-            if found == Found::TooMany {
+            let Some((further, brute)) = exhausted(&contents, right, LIMIT) else {
                 unknown += 1;
                 continue;
-            }
+            };
+            let Search { found, states, .. } = brute;
             // Tables where next to nothing can happen are mostly left out.
             if found == Found::NoLeak && states < 12 && !random.percent(20) {
                 dull += 1;
@@ -163,7 +156,7 @@ fn main() {
 
             let wanted = if found == Found::Leak { UNSAFE } else { SAFE };
             let length = needed(&file) + random.below(7);
-            let (account, answer) = compare(group, library, random, &file, right, length);
+            let (account, answer) = compare(group, library, random, Question::new(&file, right), length);
             group.demand(answer == wanted, || {
                 format!(
                     "answer {answer}, brute search {found:?} with {states} states, right {right}, {}",
@@ -206,7 +199,7 @@ fn main() {
             let (draft, right) = large(random);
             let file = draft.file();
             let length = needed(&file) + random.pick(&[0, 0, 1, 4, 5, 1000]);
-            let (account, _) = compare(group, library, random, &file, right, length);
+            let (account, _) = compare(group, library, random, Question::new(&file, right), length);
             match (account.code, account.closing) {
                 (UNSAFE, true) => by_closing += 1,
                 (UNSAFE, false) => by_rounds += 1,
@@ -236,18 +229,15 @@ fn main() {
             if names < 29 {
                 continue;
             }
-            draft.rules.truncate(28);
-            // Twice each: the second finds a name absent once, and then none.
-            for kind in [CREATE_SUBJECT, CREATE_OBJECT, CREATE_OBJECT, CREATE_SUBJECT] {
-                let place = random.below(draft.rules.len() + 1);
-                let section = rule(1, &[], &[[kind, 0, 0, 0]]);
-                let spare = random.below(4);
-                draft
-                    .rules
-                    .insert(place, with_spares(random, &section, spare));
-            }
+            both_creates(random, &mut draft);
             let file = draft.file();
-            let (account, _) = compare(group, library, random, &file, right, needed(&file));
+            let (account, _) = compare(
+                group,
+                library,
+                random,
+                Question::new(&file, right),
+                needed(&file),
+            );
             counts.add(account.code);
             both += u64::from(account.steps >= 2);
         }
@@ -264,14 +254,16 @@ fn main() {
             let file = draft.file();
             let needed = needed(&file);
             for length in [0, 1, random.below(needed), needed - 1] {
-                let (account, _) = compare(group, library, random, &file, right, length);
+                let (account, _) =
+                    compare(group, library, random, Question::new(&file, right), length);
                 counts.add(account.code);
                 group.demand(account.code == 24, || {
                     format!("{length} bytes: {account:?}")
                 });
             }
             for length in [needed, needed + 1] {
-                let (account, _) = compare(group, library, random, &file, right, length);
+                let (account, _) =
+                    compare(group, library, random, Question::new(&file, right), length);
                 counts.add(account.code);
                 group.demand(matches!(account.code, SAFE | UNSAFE), || {
                     format!("{length} bytes: {account:?}")
@@ -284,62 +276,30 @@ fn main() {
         while group.inputs < 10_000 {
             let mut draft = small(random);
             let mut right = random.below(draft.rights as usize) as u8;
-            let mut wanted = None;
-            let mut length = 40_000;
-            // Each fault by chance; the first in the order is the answer.
-            if random.percent(50) {
-                length = random.below(needed(&draft.file()));
-                wanted = Some(24);
-            }
-            if random.percent(40) {
-                let count = random.pick(&[31, 31, 32]);
-                let kind = random.between(1, 2) as u8;
-                let mut names: Vec<usize> = (0..32).collect();
-                random.shuffle(&mut names);
-                let mut exist = draft.kinds.iter().filter(|kind| **kind > 0).count();
-                for name in names {
-                    if draft.kinds[name] == 0 && exist < count {
-                        draft.kinds[name] = kind;
-                        exist += 1;
-                    }
-                }
-                wanted = Some(23);
-            }
-            if random.percent(30) {
-                let place = random.below(draft.rules.len() + 1);
-                let steps = vec![[ENTER, 0, 0, 0]; random.between(2, 6)];
-                draft.rules.insert(place, rule(1, &[], &steps));
-                wanted = Some(22);
-            }
+            // The first in the order is the answer.
+            let (length, mut planted) = obstruct(random, &mut draft);
             if random.percent(20) {
                 right = random.pick(&[draft.rights, 8, 31, 255]);
-                wanted = Some(21);
+                planted.insert(0, 21);
             }
-            let Some(wanted) = wanted else {
+            let Some(&first) = planted.first() else {
                 continue;
             };
-            let (account, _) = compare(group, library, random, &draft.file(), right, length);
+            let file = draft.file();
+            let (account, _) = compare(group, library, random, Question::new(&file, right), length);
             counts.add(account.code);
-            group.demand(account.code == wanted, || {
-                format!("reference {account:?}, {wanted} was planted")
+            group.demand(account.code == first, || {
+                format!("reference {account:?}, {planted:?} were planted")
             });
         }
     });
 
     report.group("wrong files", 10_000, |group| {
         while group.inputs < 10_000 {
-            let draft = if random.percent(50) {
-                small(random)
-            } else {
-                any(random)
-            };
-            let fault = Fault::any(random, draft.rules.len());
-            let Some(file) = plant(random, &draft, &[fault]) else {
-                continue;
-            };
+            let (file, fault) = wrong_file(random);
             let right = random.below(10) as u8;
             let length = random.pick(&[0, 10, 200, 40_000]);
-            let (account, _) = compare(group, library, random, &file, right, length);
+            let (account, _) = compare(group, library, random, Question::new(&file, right), length);
             counts.add(account.code);
             group.demand(account.code == fault.refusal(), || {
                 format!("reference {account:?}, {fault:?} was planted")

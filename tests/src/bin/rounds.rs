@@ -12,18 +12,18 @@ use reference::judge::UNSAFE;
 use reference::random::Random;
 use reference::report::{Arguments, Report};
 use reference::second;
-use reference::verdict::{compare, needed, Library};
+use reference::verdict::{compare, needed, Library, Question};
 
 fn main() {
     let arguments = Arguments::read("rounds");
     let library = if arguments.own {
         Library {
-            judge: second::judge,
+            judge: |asked, buffer| second::judge(asked.file, asked.right, buffer),
             replay: second::replay,
         }
     } else {
         Library {
-            judge: boundary_judge::judge,
+            judge: |asked, buffer| boundary_judge::judge(asked.file, asked.right, buffer),
             replay: boundary_replay::replay,
         }
     };
@@ -39,7 +39,7 @@ fn main() {
             while group.inputs < tables {
                 let (draft, right) = table(random);
                 let file = draft.file();
-                let (account, _) = compare(group, library, random, &file, right, needed(&file));
+                let (account, _) = compare(group, library, random, Question::new(&file, right), needed(&file));
                 match (account.code, account.closing) {
                     (UNSAFE, true) => by_closing += 1,
                     (UNSAFE, false) => by_rounds += 1,

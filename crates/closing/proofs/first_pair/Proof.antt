@@ -13,17 +13,17 @@ use Rattle.closing.proofs.complete.Reads as complete-reads
 use Rattle.closing.proofs.no_pair.Reads as no-pair-reads
 use Rattle.closing.proofs.pair_at.Reads as pair-at-reads
 use Rattle.rights.proofs.holds.Reads as holds-reads
-use Rattle.visits.proofs.lowest_absent.Reads as lowest-absent-reads
+use Rattle.visits.proofs.lowest_free.Reads as lowest-free-reads
 
 abbrev Inv-loop : tie.InvT-loop
-Inv-loop p taking returning asks kinds cells row col right n start cell₀ cell = Cells p (matrixOf kinds cells) (tablesOf row col) right taking returning asks start n cell
+Inv-loop p reserved taking returning asks kinds cells row col right n start cell₀ cell = Cells p reserved (matrixOf kinds cells) (tablesOf row col) right taking returning asks start n cell
 
 abbrev μ-loop : tie.MeasureT-loop
-μ-loop p taking returning asks kinds cells row col right n start cell₀ cell = 1024 - cell
+μ-loop p reserved taking returning asks kinds cells row col right n start cell₀ cell = 1024 - cell
 
 -- src/lib.rt:263:9
-lowest-absent-requires : tie.Need-lowest-absent-requires Inv-loop μ-loop
-lowest-absent-requires c κs = search needs
+lowest-free-requires : tie.Need-lowest-free-requires Inv-loop μ-loop
+lowest-free-requires c κs = search needs
 
 -- src/lib.rt:265:5
 loop-holds : tie.Need-loop-holds Inv-loop μ-loop
@@ -75,7 +75,7 @@ first-pair-spec =
     (tie.spec
     Inv-loop
     μ-loop
-    lowest-absent-requires
+    lowest-free-requires
     loop-holds
     element-copy-out-holds
     holds-requires

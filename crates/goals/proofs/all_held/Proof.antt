@@ -1,26 +1,26 @@
 use Prim.Native.Nat.{_≤_, _-_}
-use mathlib.Core.Path.{_≡_, refl}
+use mathlib.Core.Path.{_≡_}
 use native.Mathlib.Nat.{sub-zero}
 use Rattle.cases.specs.Cases.{tabulate}
 use Rattle.protection.specs.Need.{holdsAll}
 use Rattle.matrix.specs.Bytes.{view}
-use Rattle.goals.specs.Goals.{neededAt, neededBy}
+use Rattle.goals.specs.Goals.{neededAt}
 use Rattle.goals.proofs.Holding.{cell-stop, cell-next, cells-end}
 use native.Mathlib.Omega.{arith}
 use Rattle.goals.proofs.all_held.Statement.{statement}
 use Rattle.goals.proofs.all_held.Tie as tie
 
 abbrev Inv-loop : tie.InvT-loop
-Inv-loop goal kinds cells n j₀ j = (j ≤ n) × (n ≡ goal .count) × (holdsAll (tabulate (neededAt (goal .cells)) (n - j) j) (view kinds cells) ≡ holdsAll (neededBy goal) (view kinds cells))
+Inv-loop kinds cells n list j₀ j = (j ≤ n) × (holdsAll (tabulate (neededAt list) (n - j) j) (view kinds cells) ≡ holdsAll (tabulate (neededAt list) n 0) (view kinds cells))
 
 abbrev μ-loop : tie.MeasureT-loop
-μ-loop goal kinds cells n j₀ j = n - j
+μ-loop kinds cells n list j₀ j = n - j
 
 loop-holds : tie.Need-loop-holds Inv-loop μ-loop
-loop-holds c = (omega arith, refl, rw sub-zero)
+loop-holds c = (omega arith, rw sub-zero)
 
 cell-held-requires : tie.Need-cell-held-requires Inv-loop μ-loop
-cell-held-requires c κs = c .before .before .pre .all (c .before .loop .j) (omega arith)
+cell-held-requires c κs = c .before .before .before .before .pre .all (c .before .before .loop .j) (omega arith)
 
 returns : tie.Need-returns Inv-loop μ-loop
 returns c = search cell-stop
@@ -32,7 +32,7 @@ loop-less : tie.Need-loop-less Inv-loop μ-loop
 loop-less c = omega arith
 
 loop-again : tie.Need-loop-again Inv-loop μ-loop
-loop-again c = (omega arith, refl, search cell-next)
+loop-again c = (omega arith, search cell-next)
 
 returns-2 : tie.Need-returns-2 Inv-loop μ-loop
 returns-2 c = search cells-end

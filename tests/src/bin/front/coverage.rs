@@ -10,25 +10,27 @@ use std::collections::BTreeSet;
 use std::fs;
 use tugcaphi::table::mistake::Code;
 
-/// The exit statuses that each command has. A table that is read makes no file
-/// that is refused, so `make` has no 2 here; `back` has it.
-const STATUSES: [(&str, &[i32]); 7] = [
+/// The exit statuses that each command has, and with an option that asks another
+/// question. A table that is read makes no file that is refused, so `make` has no
+/// 2 here; `back` has it.
+const STATUSES: [(&str, &[i32]); 8] = [
     ("make", &[0, 3]),
     ("show", &[0, 2, 3]),
     ("check", &[0, 2, 3]),
     ("judge", &[0, 1, 2, 3]),
+    ("judge --without", &[0, 1, 2, 3]),
     ("need", &[0, 1, 2, 3]),
     ("run", &[0, 2, 3]),
     ("replay", &[0, 1, 2, 3]),
 ];
 
 /// The judge's buffer is always long enough, so no 24.
-const REFUSALS: [u8; 18] = [
-    1, 2, 3, 4, 5, 6, 7, 8, 9, 11, 12, 14, 15, 21, 22, 23, 31, 41,
+const REFUSALS: [u8; 19] = [
+    1, 2, 3, 4, 5, 6, 7, 8, 9, 11, 12, 14, 15, 21, 22, 23, 31, 41, 42,
 ];
 
 pub fn run(report: &mut Report, shown: &Shown) {
-    report.group("every command with every exit status", 23, |group| {
+    report.group("every command with every exit status", 27, |group| {
         statuses(group, shown)
     });
     report.group("what went wrong comes with what to do", 150, |group| {
@@ -41,14 +43,14 @@ pub fn run(report: &mut Report, shown: &Shown) {
     report.group("every mistake of the table reader", 37, |group| {
         mistakes(group, shown)
     });
-    report.group("every refusal that the program can meet", 18, |group| {
+    report.group("every refusal that the program can meet", 19, |group| {
         refusals(group, shown)
     });
     let answers = answers(shown);
     report.group("answers for programs are as the schema says", 20, |group| {
         valid(group, &answers)
     });
-    report.group("every sort of answer for programs", 23, |group| {
+    report.group("every sort of answer for programs", 26, |group| {
         sorts(group, &answers)
     });
 }
@@ -56,15 +58,20 @@ pub fn run(report: &mut Report, shown: &Shown) {
 fn statuses(group: &mut Group, shown: &Shown) {
     for (command, statuses) in STATUSES {
         for &status in statuses {
-            let seen = |told: &Told| {
-                let same = told.words.first().is_some_and(|word| word == command);
-                same && told.said.status == status
-            };
+            let seen = |told: &Told| is(told, command) && told.said.status == status;
             group.input(shown.told.iter().any(seen), || {
                 format!("no transcript has {command} with status {status}")
             });
         }
     }
+}
+
+/// Whether a command line begins with the command and has its options.
+fn is(told: &Told, command: &str) -> bool {
+    let mut words = command.split(' ');
+    let first = told.words.first().map(String::as_str);
+    let has = |option: &str| told.words.iter().any(|word| word == option);
+    first == words.next() && words.all(has)
 }
 
 fn mistakes(group: &mut Group, shown: &Shown) {
@@ -96,11 +103,12 @@ fn refusals(group: &mut Group, shown: &Shown) {
 }
 
 /// What every answer for programs can be, by its command.
-const ANSWERS: [(&str, &[&str]); 7] = [
+const ANSWERS: [(&str, &[&str]); 8] = [
     ("make", &["made", "error"]),
     ("show", &["shown", "refused", "error"]),
     ("check", &["accepted", "refused", "failed"]),
     ("judge", &["safe", "unsafe", "refused", "error"]),
+    ("judge --without", &["safe", "unsafe", "refused"]),
     ("need", &["held", "never", "refused", "error"]),
     ("run", &["done", "refused", "error"]),
     ("replay", &["no leak", "leak", "refused", "error"]),
@@ -138,7 +146,7 @@ fn valid(group: &mut Group, answers: &Answers) {
 
 fn sorts(group: &mut Group, answers: &Answers) {
     for (command, sorts) in ANSWERS {
-        let of = answers.iter().filter(|(told, _)| told.words[0] == command);
+        let of = answers.iter().filter(|(told, _)| is(told, command));
         let given = of.filter_map(|(_, answer)| answer.as_ref().ok());
         let seen: Vec<String> = given.flat_map(sorts_of).collect();
         for sort in sorts {

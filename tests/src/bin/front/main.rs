@@ -1,6 +1,7 @@
 //! The front program `tugcaphi`: transcripts of every command, exit status and
 //! mistake in a table, random tables there and back, damaged texts, the places of refusals,
 //! steps in words against a replay, what a press needs in words, pictures, pages and answers for programs,
+//! the same without trusted names,
 //! and the examples in the docs. Arguments: the seed, the number of random
 //! tables. The executable is `../target/cli/release/tugcaphi`, or TUGCAPHI names
 //! it. With FRONT_BLESS set the transcripts are written anew; read the difference.
@@ -15,6 +16,7 @@ mod grids;
 mod json;
 mod needs;
 mod pages;
+mod parts;
 mod places;
 mod reading;
 mod schema;
@@ -47,6 +49,7 @@ fn main() {
     stories::run(&mut report, seed);
     needs::run(&mut report, seed);
     pages::run(&mut report, seed);
+    parts::run(&mut report, seed);
     terminals::run(&mut report);
     report.finish();
 }

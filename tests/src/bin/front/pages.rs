@@ -43,12 +43,12 @@ pub fn run(report: &mut Report, seed: u64) {
     report.group("pages are well-formed and tell everything", 135, |group| {
         for (content, verdicts) in &cases {
             let page = report::page("a <table> & \"more\"", content, verdicts);
-            let said = page_held(&page, content, verdicts);
+            let said = page_held(&page, content, content, verdicts);
             group.input(said.is_ok(), || format!("{said:?}"));
         }
     });
     report.group("spare blanks in pictures and pages", 3, |group| {
-        let (content, verdicts) = judged(SPARE.as_bytes());
+        let (content, verdicts) = judged(SPARE.as_bytes(), &[]);
         let svg = picture::svg("spare", &content, &verdicts[1..]);
         // Of so many names only those that take part are drawn; the judge's 0 is none.
         let drawn = |name: &str| svg.contains(&format!(">{name}<"));
@@ -56,7 +56,7 @@ pub fn run(report: &mut Report, seed: u64) {
         let page = report::page("spare", &content, &verdicts);
         let told = page.contains("<b>order (press9)</b>") && page.contains(LEFT_OUT);
         group.input(told, || page.clone());
-        let (content, verdicts) = judged(SPARE.replace("job, ", "").as_bytes());
+        let (content, verdicts) = judged(SPARE.replace("job, ", "").as_bytes(), &[]);
         let page = report::page("spare", &content, &verdicts);
         group.input(!page.contains(LEFT_OUT), || page.clone());
     });
@@ -80,7 +80,7 @@ fn cases(seed: u64) -> Vec<(Content, Vec<Verdict>)> {
             _ => lively(random),
         });
         let wording = Wording::any(&mut random, &draft);
-        cases.push(contents(&draft.file(), &wording));
+        cases.push(contents(&draft.file(), &wording, &[]));
     }
     cases.extend(LETTERS.chars().map(long_words));
     cases
@@ -97,18 +97,18 @@ fn long_words(letter: char) -> (Content, Vec<Verdict>) {
         "table 1\nrights {own} {read}\nsubjects {ada} {ben}\nobjects {ink}\ncell ({ada}, {ink}): {own} {read}\n\
          cell ({ada}, {ben}): {own}\nrule {lend} (x, y, z): if {own} in (x, z) enter {read} into (y, z)\n"
     );
-    judged(text.as_bytes())
+    judged(text.as_bytes(), &[])
 }
 
-/// A table with the verdicts on all its rights.
-fn judged(text: &[u8]) -> (Content, Vec<Verdict>) {
+/// A table with the verdicts on all its rights without these names.
+pub fn judged(text: &[u8], without: &[u8]) -> (Content, Vec<Verdict>) {
     let table = tugcaphi::table::read(text).expect("a table of ours");
     let file = tugcaphi::house::encode::encode(&table.house);
     let content = Content {
         house: table.house,
         words: table.words,
     };
-    let verdicts = (0..file[0]).map(|right| judge(&file, &content.house, right));
+    let verdicts = (0..file[0]).map(|right| judge(&file, &content.house, right, without));
     let verdicts = verdicts.collect::<Result<_, _>>();
     (content, verdicts.expect("steps that can be done"))
 }
@@ -118,12 +118,12 @@ fn examples() -> Vec<(Content, Vec<Verdict>)> {
     let paths = entries.filter_map(|entry| entry.ok().map(|entry| entry.path()));
     let mut cases = Vec::new();
     for path in paths.filter(|path| path.extension().is_some_and(|e| e == "table")) {
-        cases.push(judged(&fs::read(&path).expect("an example table")));
+        cases.push(judged(&fs::read(&path).expect("an example table"), &[]));
     }
     cases
 }
 
-fn picture_held(svg: &str, content: &Content, verdicts: &[Verdict]) -> Result<(), String> {
+pub fn picture_held(svg: &str, content: &Content, verdicts: &[Verdict]) -> Result<(), String> {
     let root = parse(svg)?;
     is(root.name == "svg", || "no svg".into())?;
     let size = |name: &str| root.attribute(name).and_then(|value| value.parse().ok());
@@ -195,7 +195,13 @@ fn corners(element: &Element) -> Vec<(i64, i64)> {
     }
 }
 
-fn page_held(page: &str, content: &Content, verdicts: &[Verdict]) -> Result<(), String> {
+/// `shown` is what the page's matrix has to be.
+pub fn page_held(
+    page: &str,
+    content: &Content,
+    shown: &Content,
+    verdicts: &[Verdict],
+) -> Result<(), String> {
     let root = parse(page)?;
     let begins = page.starts_with("<!doctype html>");
     is(root.name == "html" && begins, || "no page".into())?;
@@ -211,7 +217,7 @@ fn page_held(page: &str, content: &Content, verdicts: &[Verdict]) -> Result<(), 
         verdict_held(&root, content, verdict)?;
         pictures += usize::from(matches!(verdict.ruling, Ruling::Unsafe(_)));
     }
-    grids::held(&root, content)?;
+    grids::held(&root, shown)?;
     is(root.named("svg").len() == pictures, || {
         "a picture for each unsafe right".into()
     })?;

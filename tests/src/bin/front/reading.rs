@@ -118,6 +118,17 @@ impl Reading {
         Ok((subject, object))
     }
 
+    /// `Ada, Ben and Cyd` as numbers.
+    pub fn names(&self, line: &mut Line, before_last: &str) -> Result<Vec<u8>, String> {
+        let mut names = Vec::new();
+        loop {
+            names.push(self.find(&self.names, &line.word()?)? as u8);
+            if !line.passes(",") && !line.passes(&format!("{before_last} ")) {
+                return Ok(names);
+            }
+        }
+    }
+
     fn clause(&self, line: &mut Line) -> Result<Effect, String> {
         let verb = line.word()?;
         if verb == "creates" {

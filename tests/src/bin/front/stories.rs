@@ -14,6 +14,7 @@ use reference::random::Random;
 use reference::replay::{replay, LEAK};
 use reference::report::{Group, Report};
 use reference::table::file as file_of;
+use reference::verdict::part;
 use std::fs;
 use tugcaphi::input::Content;
 use tugcaphi::library::{self, Judgement};
@@ -38,7 +39,7 @@ pub fn run(report: &mut Report, seed: u64) {
             let said = folder.run(&words, None);
             let printed = String::from_utf8_lossy(&said.out).into_owned();
             let file = file_of(&text).expect("an example table");
-            held(group, &table.words, &file, &printed);
+            held(group, &table.words, &file, &[], &printed);
         }
     });
     let mut random = Random::new(seed ^ 0x5708);
@@ -53,9 +54,9 @@ pub fn run(report: &mut Report, seed: u64) {
             });
             let file = draft.file();
             let wording = Wording::any(&mut random, &draft);
-            let (content, verdicts) = contents(&file, &wording);
+            let (content, verdicts) = contents(&file, &wording, &[]);
             let printed = lines(&content, &verdicts, Style::PLAIN);
-            spare += held(group, &content.words, &file, &printed);
+            spare += held(group, &content.words, &file, &[], &printed);
         }
         group.demand(spare >= 500, || {
             format!("only {spare} steps of rules with spare blanks")
@@ -130,23 +131,31 @@ pub fn words_of(wording: &Wording) -> Words {
     }
 }
 
-/// What a file says with these words, and the verdicts on all its rights.
-pub fn contents(file: &[u8], wording: &Wording) -> (Content, Vec<Verdict>) {
+/// What a file says with these words, and the verdicts on all its rights without
+/// these names.
+pub fn contents(file: &[u8], wording: &Wording, without: &[u8]) -> (Content, Vec<Verdict>) {
     let content = Content {
         house: tugcaphi::house::decode::decode(file),
         words: words_of(wording),
     };
-    let verdicts = (0..file[0]).map(|right| judge(file, &content.house, right));
+    let verdicts = (0..file[0]).map(|right| judge(file, &content.house, right, without));
     let verdicts = verdicts
         .collect::<Result<_, _>>()
         .expect("steps that can be done");
     (content, verdicts)
 }
 
-/// Holds every printed verdict to the file. Gives the number of steps of rules
-/// with spare blanks.
-fn held(group: &mut Group, words: &Words, file: &[u8], printed: &str) -> u64 {
+/// Holds every printed verdict, and which names were left out, to the file. Gives
+/// the number of steps of rules with spare blanks.
+pub fn held(group: &mut Group, words: &Words, file: &[u8], without: &[u8], printed: &str) -> u64 {
     let reading = Reading::new(words);
+    let mut printed = printed;
+    if !without.is_empty() {
+        let (head, rest) = printed.split_once('\n').unwrap_or((printed, ""));
+        let said = left_out(&reading, head, without);
+        group.demand(said.is_ok(), || format!("{said:?} in {head}"));
+        printed = if said.is_ok() { rest } else { printed };
+    }
     let mut verdicts: Vec<Vec<&str>> = Vec::new();
     for line in printed.lines() {
         match line.starts_with("  ") {
@@ -162,15 +171,32 @@ fn held(group: &mut Group, words: &Words, file: &[u8], printed: &str) -> u64 {
     });
     let mut spare = 0;
     for (right, verdict) in verdicts.iter().enumerate() {
-        let said = self::verdict(&reading, right, verdict, file);
+        let said = self::verdict(&reading, right, verdict, file, without);
         group.input(said.is_ok(), || format!("{said:?} in {verdict:?}"));
         spare += said.unwrap_or(0);
     }
     spare
 }
 
+/// The first line of verdicts without some names has these names.
+fn left_out(reading: &Reading, head: &str, without: &[u8]) -> Result<(), String> {
+    let mut line = Line::new(head);
+    line.expect("Left out, with row and column:")?;
+    let told = reading.names(&mut line, "and")?;
+    match told == without && line.rest.is_empty() {
+        true => Ok(()),
+        false => Err(format!("{told:?}, wanted {without:?}")),
+    }
+}
+
 /// A verdict is the library's, with what is told of it.
-fn verdict(reading: &Reading, right: usize, lines: &[&str], file: &[u8]) -> Result<u64, String> {
+fn verdict(
+    reading: &Reading,
+    right: usize,
+    lines: &[&str],
+    file: &[u8],
+    without: &[u8],
+) -> Result<u64, String> {
     let mut head = Line::new(lines[0]);
     let asked = reading.find(&reading.rights, &head.word()?)?;
     let verdict = head.word()?;
@@ -178,9 +204,14 @@ fn verdict(reading: &Reading, right: usize, lines: &[&str], file: &[u8]) -> Resu
         return Err(format!("right {asked} in place of {right}"));
     }
     let mut buffer = vec![0; 50_000];
-    let answer = library::judge(file, right as u8, &mut buffer);
+    let answer = match without {
+        [] => library::judge(file, right as u8, &mut buffer),
+        names => library::judge_part(file, right as u8, names, &mut buffer),
+    };
     match (verdict.as_str(), answer) {
-        ("SAFE", Judgement::Safe(_)) => holding(lines[0], right, file).map(|()| 0),
+        ("SAFE", Judgement::Safe(_)) => {
+            holding(reading, lines[0], right, file, without).map(|()| 0)
+        }
         ("UNSAFE", Judgement::Unsafe(steps)) => {
             let trace = &buffer[..5 * steps as usize];
             leaking(reading, right, &lines[1..], file, trace)
@@ -218,20 +249,46 @@ fn leaking(
     Ok(told.spare)
 }
 
-/// SAFE tells how many cells hold the right.
-fn holding(line: &str, right: usize, file: &[u8]) -> Result<(), String> {
+/// SAFE tells how many cells of the names that stay hold the right, and with whom
+/// no rule is to be run.
+fn holding(
+    reading: &Reading,
+    line: &str,
+    right: usize,
+    file: &[u8],
+    without: &[u8],
+) -> Result<(), String> {
+    let part = part(file, without);
     let cells = file::kinds_offset(file) + 32;
-    let count = file[cells..cells + 1024]
+    let count = part[cells..cells + 1024]
         .iter()
         .filter(|&&cell| cell >> right & 1 == 1)
         .count();
-    let wanted = match count {
-        0 => "  no cell holds it yet;".to_string(),
-        1 => "  1 cell holds it already;".to_string(),
-        n => format!("  {n} cells hold it already;"),
+    let of = if without.is_empty() {
+        ""
+    } else {
+        " of the others"
     };
-    match line.contains(&wanted) {
+    let holders = match count {
+        0 => format!("  no cell{of} holds it yet; "),
+        1 => format!("  1 cell{of} holds it already; "),
+        n => format!("  {n} cells{of} hold it already; "),
+    };
+    let never = "no run of the rules enters it into a cell that lacks it";
+    let Some((_, rest)) = line.split_once(&format!("{holders}{never}")) else {
+        return Err(format!("{count} cells hold it: {line}"));
+    };
+    let mut words = Line::new(rest);
+    // Of many names the first few are told here.
+    if (1..=10).contains(&without.len()) {
+        words.expect(", as long as no rule is run with")?;
+        let told = reading.names(&mut words, "or")?;
+        if told != without {
+            return Err(format!("{told:?}, wanted {without:?}"));
+        }
+    }
+    match without.len() > 10 || words.rest.is_empty() {
         true => Ok(()),
-        false => Err(format!("{count} cells hold it: {line}")),
+        false => Err(format!("more is told: {}", words.rest)),
     }
 }

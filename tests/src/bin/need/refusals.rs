@@ -1,12 +1,12 @@
 //! 41 by each of its reasons and on both sides of each bound, and the order of
 //! the refusals.
 
-use reference::damage::{plant, Fault};
 use reference::file;
 use reference::filled::{compare, Library, Question};
 use reference::generate::*;
 use reference::lists::{any_cells, bytes, spoiled, REASONS};
 use reference::need::{HELD, NEVER};
+use reference::obstacles::{obstruct, wrong_file};
 use reference::random::Random;
 use reference::report::{hex, Counts, Group, Report};
 use reference::verdict::needed;
@@ -169,8 +169,13 @@ fn order(group: &mut Group, library: Library, random: &mut Random, counts: &mut 
         let mut draft = small(random);
         let contents = file::read(&draft.file()).unwrap();
         let mut list = bytes(&any_cells(random, &contents, &contents.matrix));
-        let mut length = 40_000;
-        let planted = faults(random, &mut draft, &mut list, &mut length);
+        let (length, mut planted) = obstruct(random, &mut draft);
+        if random.percent(58) {
+            // Part of a cell, or a right that is not there.
+            let count = random.pick(&[1, 3]);
+            list.extend(&[draft.rights, 0, 0][..count]);
+            planted.push(41);
+        }
         let Some(&first) = planted.first() else {
             continue;
         };
@@ -186,65 +191,10 @@ fn order(group: &mut Group, library: Library, random: &mut Random, counts: &mut 
     group.demand(several >= 2_000, || format!("only {several} with several"));
 }
 
-/// Plants each fault by chance; gives their refusals in order.
-fn faults(
-    random: &mut Random,
-    draft: &mut Draft,
-    list: &mut Vec<u8>,
-    length: &mut usize,
-) -> Vec<u8> {
-    let mut planted = Vec::new();
-    if random.percent(58) {
-        // Part of a cell, or a right that is not there.
-        let count = random.pick(&[1, 3]);
-        list.extend(&[draft.rights, 0, 0][..count]);
-        planted.push(41);
-    }
-    if random.percent(40) {
-        *length = random.below(needed(&draft.file()));
-        planted.push(24);
-    }
-    if random.percent(30) {
-        crowd(random, draft);
-        planted.push(23);
-    }
-    if random.percent(30) {
-        let place = random.below(draft.rules.len() + 1);
-        let steps = vec![[ENTER, 0, 0, 0]; random.between(2, 6)];
-        draft.rules.insert(place, rule(1, &[], &steps));
-        planted.push(22);
-    }
-    planted.reverse();
-    planted
-}
-
-/// 31 or 32 names.
-fn crowd(random: &mut Random, draft: &mut Draft) {
-    let count = random.pick(&[31, 31, 32]);
-    let kind = random.between(1, 2) as u8;
-    let mut names: Vec<usize> = (0..32).collect();
-    random.shuffle(&mut names);
-    let mut exist = draft.kinds.iter().filter(|kind| **kind > 0).count();
-    for name in names {
-        if draft.kinds[name] == 0 && exist < count {
-            draft.kinds[name] = kind;
-            exist += 1;
-        }
-    }
-}
-
 /// The file's refusal comes before all others, whatever list and buffer are.
 fn wrong_files(group: &mut Group, library: Library, random: &mut Random, counts: &mut Counts) {
     while group.inputs < 6_000 {
-        let draft = if random.percent(50) {
-            small(random)
-        } else {
-            any(random)
-        };
-        let fault = Fault::any(random, draft.rules.len());
-        let Some(file) = plant(random, &draft, &[fault]) else {
-            continue;
-        };
+        let (file, fault) = wrong_file(random);
         let list_length = random.pick(&[0, 0, 1, 3, 6, 24, 27]);
         let list = random.bytes(list_length);
         let length = random.pick(&[0, 10, 200, 40_000]);
