@@ -1,10 +1,12 @@
 /*
- * A table in memory, what a press needs, the verdict without Ada and with her, and the leak replayed and carried out. It prints:
+ * A table in memory, what a press needs, the verdict without Ada and with her, both rights on a sheet, and the leak replayed and
+ * carried out. It prints:
  *
  *   accepted
  *   right 1 in (0, 2) and (1, 2): held after 2 steps
  *   right 0 in (1, 2): never
  *   without 0: safe
+ *   sheet: right 0 safe, right 1 unsafe after 1 step: rule 0 with 0 0 2
  *   unsafe after 1 step: rule 0 with 0 0 2
  *   replayed: leaks at step 0
  *   run: cell (0, 2) held 1, and holds 3
@@ -44,7 +46,8 @@ static void table(uint8_t file[LENGTH])
 
 int main(void)
 {
-    static uint8_t file[LENGTH], steps[TUGCAPHI_BUFFER];
+    static uint8_t file[LENGTH], steps[TUGCAPHI_BUFFER], halves[2 * TUGCAPHI_BUFFER];
+    static uint8_t sheet[2 * TUGCAPHI_ENTRY] = {0, 0, 0, 0, 1, 0, 0, 0};
     static const uint8_t both[2 * TUGCAPHI_CELL] = {1, 0, 2, 1, 1, 2}, none[TUGCAPHI_CELL] = {0, 1, 2};
     const uint8_t right = 1, ada = 0;
     const uint8_t *cell = file + CELLS + 32 * 0 + 2;
@@ -65,6 +68,14 @@ int main(void)
 
     if (access_judge_part(file, LENGTH, right, &ada, 1, steps, sizeof steps, &count) == TUGCAPHI_SAFE)
         printf("without 0: safe\n");
+
+    /* Entry 1 has the second half of the buffer. */
+    if (access_sheet(file, LENGTH, sheet, sizeof sheet, halves, sizeof halves) == TUGCAPHI_ANSWERED
+        && sheet[1] == TUGCAPHI_SAFE && sheet[TUGCAPHI_ENTRY + 1] == TUGCAPHI_UNSAFE) {
+        const uint8_t *step = halves + sizeof halves / 2;
+        printf("sheet: right 0 safe, right 1 unsafe after %d step: rule %d with %d %d %d\n",
+               sheet[TUGCAPHI_ENTRY + 2] + 256 * sheet[TUGCAPHI_ENTRY + 3], step[0], step[1], step[2], step[3]);
+    }
 
     answer = access_judge(file, LENGTH, right, steps, sizeof steps, &count);
     if (answer != TUGCAPHI_UNSAFE) {

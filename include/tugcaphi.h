@@ -1,7 +1,7 @@
 /*
  * Tugcaphi: an access matrix after Harrison, Ruzzo and Ullman, and the judge of its leaks, as a library.
  *
- * Six calls on bytes in memory. They open no file, keep nothing between calls, allocate nothing and print nothing. What each
+ * Seven calls on bytes in memory. They open no file, keep nothing between calls, allocate nothing and print nothing. What each
  * answers and leaves is proved, for every input: docs/PROVED.md says what that means and what it rests on. docs/FORMAT.md has
  * the house file byte by byte, docs/REFUSALS.md every number by which a call is refused.
  *
@@ -14,18 +14,18 @@
  * What every call promises
  *
  * - It ends, whatever it is given, and reads and writes nothing but what it is lent.
- * - Any bytes are taken as a file, a trace, a list of cells or of names, or a buffer, and any number as a rule, a name or a
- *   right. What is wrong with them is the answer: a number of docs/REFUSALS.md, 1 to 9 for the file, 11, 12, 14, 15 and 31 for
- *   a rule run or a trace, 21 to 24 for a question to the judge, 41 for a list of cells, 42 for one of names. The first one
- *   that applies is given, in the order of that page.
- * - Refused, it changes no byte of a file or a buffer.
+ * - Any bytes are taken as a file, a trace, a list of cells or of names, a sheet or a buffer, and any number as a rule, a name or
+ *   a right. What is wrong with them is the answer: a number of docs/REFUSALS.md, 1 to 9 for the file, 11, 12, 14, 15 and 31 for
+ *   a rule run or a trace, 21 to 24 for a question to the judge, 41 for a list of cells, 42 for one of names, 43 for a sheet. The
+ *   first one that applies is given, in the order of that page.
+ * - Refused, it changes no byte of a file, a sheet or a buffer.
  *
  * What the caller must see to; no call can test it
  *
  * - A pointer is not null and points to as many bytes as its length says, for the whole call; a length of 0 is fine.
  * - What is lent for writing overlaps with nothing else that is lent: the file of access_run; the buffer and the number of
- *   access_judge, access_judge_part and access_need; the number of access_replay. The number is aligned as a uint64_t is. What is lent for reading alone (const)
- *   may be one and the same memory.
+ *   access_judge, access_judge_part and access_need; the entries and the buffer of access_sheet; the number of access_replay. The
+ *   number is aligned as a uint64_t is. What is lent for reading alone (const) may be one and the same memory.
  * - Nobody writes to what is lent while the call is at work, and nobody reads what is lent for writing. Calls of several threads
  *   at once, each with memory of its own or with memory that is only read, do not touch each other.
  * - There is stack for the call: see TUGCAPHI_STACK.
@@ -45,8 +45,9 @@ extern "C" {
 #define TUGCAPHI_DONE 0     /* access_run */
 #define TUGCAPHI_NO_LEAK 0  /* access_replay */
 #define TUGCAPHI_LEAK 255
-#define TUGCAPHI_SAFE 0     /* access_judge, access_judge_part */
+#define TUGCAPHI_SAFE 0     /* access_judge, access_judge_part, an entry of access_sheet */
 #define TUGCAPHI_UNSAFE 255
+#define TUGCAPHI_ANSWERED 0 /* access_sheet */
 #define TUGCAPHI_NEVER 0    /* access_need */
 #define TUGCAPHI_HELD 255
 
@@ -60,16 +61,24 @@ extern "C" {
 #define TUGCAPHI_CELL 3
 #define TUGCAPHI_CELLS 8
 
-/* A buffer of so many bytes is long enough for every call that takes one, whatever the file: 5 * (8 * 31 * 32 + 4). */
+/* An entry of a sheet: a right, the code of its answer, and two bytes for the number of steps. A sheet has at most so many. */
+#define TUGCAPHI_ENTRY 4
+#define TUGCAPHI_ENTRIES 8
+
+/*
+ * A buffer of so many bytes is long enough for every call that takes one, whatever the file: 5 * (8 * 31 * 32 + 4). A sheet
+ * needs so many for each entry.
+ */
 #define TUGCAPHI_BUFFER 39700
 
 /*
  * Bytes of stack that are enough for each call. This is measured and not proved: access_check used about 6,000 bytes, access_run
- * 8,200, access_replay 7,200, access_judge 28,300, access_judge_part 30,400, access_need 17,200. Each ran in a thread whose stack
- * of 1 MiB was painted with a pattern before, and what had lost its paint afterwards was counted, less what an idle thread uses;
- * on 60 generated files from each of nine seeds, for all rights, access_judge_part with none, some and all of the names listed,
- * access_need with lists of 0, 1 and 8 cells. The files made no difference: the calls hold arrays of fixed size alone, and recur
- * at most once for each blank of a rule. The tests measure it again, and fail above this number.
+ * 8,200, access_replay 7,200, access_judge 28,300, access_judge_part 30,400, access_sheet 30,700, access_need 17,200. Each ran in
+ * a thread whose stack of 1 MiB was painted with a pattern before, and what had lost its paint afterwards was counted, less what
+ * an idle thread uses; on 60 generated files from each of nine seeds, for all rights, access_judge_part with none, some and all of
+ * the names listed, access_sheet with 0, 1 and 8 entries, access_need with lists of 0, 1 and 8 cells. The files made no
+ * difference: the calls hold arrays of fixed size alone, and recur at most once for each blank of a rule. The tests measure it
+ * again, and fail above this number.
  */
 #define TUGCAPHI_STACK 32768
 
@@ -103,8 +112,8 @@ uint8_t access_replay(const uint8_t *file, size_t length, const uint8_t *trace, 
  *
  * 255, unsafe: the first 5 * *steps bytes of the buffer are a run that does, from the file as it is: no step of it is refused,
  * and it leaks at its last step and nowhere sooner. 0, safe: no run leaks; the first 5 * *steps bytes of the buffer are the
- * steps by which the judge found this out. Spare blanks have 0 in them. The rest of the buffer keeps its bytes. Else the refusal, 1 to 9 or 21 to 24;
- * *steps is 0.
+ * steps by which the judge found this out. Spare blanks have 0 in them. The rest of the buffer keeps its bytes. Else the refusal,
+ * 1 to 9 or 21 to 24; *steps is 0.
  */
 uint8_t access_judge(const uint8_t *file, size_t length, uint8_t right, uint8_t *buffer, size_t buffer_length,
                      uint64_t *steps);
@@ -122,6 +131,21 @@ uint8_t access_judge(const uint8_t *file, size_t length, uint8_t right, uint8_t 
  */
 uint8_t access_judge_part(const uint8_t *file, size_t length, uint8_t right, const uint8_t *trusted, size_t trusted_length,
                           uint8_t *buffer, size_t buffer_length, uint64_t *steps);
+
+/*
+ * access_judge of several rights: a sheet of at most 8 entries, each with a part of the buffer of its own. An entry has four
+ * bytes: the right, which the caller writes, and then the place for its answer: the code, and the number of steps, low byte
+ * first. There are entries_length / 4 entries, and a right may stand in several. Of n entries each has buffer_length / n bytes,
+ * rounded down, the first one from the front of the buffer on, each next one behind the one before.
+ *
+ * 0: each entry has the code and the number that access_judge would give for its right and its part of the buffer, and the part
+ * is as that call would leave it. A refusal, 1 to 9 or 21 to 24, is an entry's code, too, with the number 0, and does not keep
+ * the other entries from their answers; that of the file is the code of every entry. Bytes behind the last whole entry and behind
+ * the last part stay, and an empty sheet changes nothing, whatever the file is. 43: there are more than 8 entries; the file was
+ * not looked at, and no entry is answered.
+ */
+uint8_t access_sheet(const uint8_t *file, size_t length, uint8_t *entries, size_t entries_length, uint8_t *buffer,
+                     size_t buffer_length);
 
 /*
  * Whether all cells of a list can hold their rights at the same moment, as a press needs them. A cell is three bytes, right,

@@ -1,6 +1,6 @@
 //! What the benchmark needs: tables, two judges of its own, the question as a
-//! logic program, what a press needs beside the judge's rounds, and the
-//! measuring. Files are read by the reference of `tests/`.
+//! logic program, what a press needs beside the judge's rounds, a sheet beside
+//! single calls, and the measuring. Files are read by the reference of `tests/`.
 
 pub mod families;
 pub mod logic;
@@ -8,4 +8,5 @@ pub mod measure;
 pub mod plain;
 pub mod pressing;
 pub mod pruned;
+pub mod sheets;
 pub mod table;

@@ -1,6 +1,6 @@
 //! Runs the desk program, the plain loops and, where there is one, a solver of
-//! logic programs on the benchmark's tables and prints one table, and a second
-//! one of what a press needs. `README.md` tells how to read them.
+//! logic programs on the benchmark's tables and prints one table, a second one of
+//! what a press needs, and a third of sheets. `README.md` tells how to read them.
 //!
 //! Arguments: the folder to write into, the desk program, the plain program, and
 //! the one that makes a single call.
@@ -9,7 +9,7 @@ use bench::families::{all, Sample};
 use bench::measure::{fail, instructions, millions, over, run, seconds, time, times, Run};
 use bench::pressing::{self, Pressing};
 use bench::table::{listing, Answer, Table};
-use bench::{logic, pruned};
+use bench::{logic, pruned, sheets};
 use reference::file;
 use std::collections::BTreeMap;
 use std::env;
@@ -145,8 +145,10 @@ fn main() {
         limit: bench.limit,
     };
     let samples = all(SEED);
-    if env::var("BENCH_ONLY").is_ok_and(|word| word == "press") {
-        return tell(pressing::print(&pressing, &samples), pressing::REACHED);
+    match env::var("BENCH_ONLY").as_deref() {
+        Ok("press") => return tell(pressing::print(&pressing, &samples), pressing::REACHED),
+        Ok("sheet") => return tell(sheets::print(&pressing, &samples), sheets::REACHED),
+        _ => {}
     }
     // What starting takes: the empty input.
     let empty = folder.join("empty");
@@ -256,6 +258,8 @@ fn main() {
     tell(missed, &all_of);
     println!();
     tell(pressing::print(&pressing, &samples), pressing::REACHED);
+    println!();
+    tell(sheets::print(&pressing, &samples), sheets::REACHED);
 }
 
 /// What was not reached, or that all was.

@@ -31,12 +31,16 @@ pub struct Pressing {
 /// A right in a cell: right, subject, name.
 type Cell = [u8; 3];
 
-/// A question to the program: its word, its input, and what it must print.
-struct Question {
-    word: &'static str,
-    input: Vec<u8>,
-    wanted: String,
+/// A question to the program: its word, its input, and what it must print; what
+/// it prints of the empty input, too, whose instructions are taken off.
+pub struct Question {
+    pub word: &'static str,
+    pub input: Vec<u8>,
+    pub wanted: String,
+    pub empty: &'static str,
 }
+
+const EMPTY: &str = "REFUSED 1\n";
 
 /// Prints the table; the answer is what was not reached.
 pub fn print(pressing: &Pressing, samples: &[Sample]) -> Vec<String> {
@@ -150,6 +154,7 @@ impl Pressing {
             word,
             input: [vec![sample.right], draft.file()].concat(),
             wanted: format!("{verdict} {steps}\n"),
+            empty: EMPTY,
         };
         let mut questions = vec![judged("judge"), judged("part")];
         for count in LISTS {
@@ -158,6 +163,7 @@ impl Pressing {
                 word: "need",
                 input: [vec![count as u8], list, draft.file()].concat(),
                 wanted: format!("{held} {steps}\n"),
+                empty: EMPTY,
             });
         }
         let path = self.folder.join(format!("{}.press", sample.name));
@@ -165,11 +171,11 @@ impl Pressing {
         questions.iter().map(count).collect()
     }
 
-    fn count(&self, question: &Question, path: &Path) -> u64 {
+    pub fn count(&self, question: &Question, path: &Path) -> u64 {
         let start = Question {
-            word: question.word,
             input: Vec::new(),
-            wanted: "REFUSED 1\n".to_string(),
+            wanted: question.empty.to_string(),
+            ..*question
         };
         let begun = self.counted(&start, path);
         self.counted(question, path).saturating_sub(begun).max(1)

@@ -1,5 +1,7 @@
 //! The proved library behind its C boundary (`include/tugcaphi.h`). Every verdict, refusal, replay,
-//! rule run and answer to a press is one of these six answers, decided there and nowhere else.
+//! rule run and answer to a press is an answer of these seven calls, decided there and nowhere else.
+
+use crate::limits::ENTRY_BYTES;
 
 #[link(name = "exports", kind = "static")]
 extern "C" {
@@ -30,6 +32,14 @@ extern "C" {
         buffer: *mut u8,
         buffer_length: usize,
         steps: *mut u64,
+    ) -> u8;
+    fn access_sheet(
+        file: *const u8,
+        length: usize,
+        entries: *mut u8,
+        entries_length: usize,
+        buffer: *mut u8,
+        buffer_length: usize,
     ) -> u8;
     fn access_need(
         file: *const u8,
@@ -72,6 +82,14 @@ impl Judgement {
             0 => Judgement::Safe(steps),
             LEAK => Judgement::Unsafe(steps),
             by => Judgement::Refused(by),
+        }
+    }
+
+    /// The number of steps at the front of the buffer.
+    pub fn steps(self) -> u64 {
+        match self {
+            Judgement::Safe(steps) | Judgement::Unsafe(steps) => steps,
+            Judgement::Refused(_) => 0,
         }
     }
 }
@@ -155,6 +173,29 @@ pub fn judge_part(file: &[u8], right: u8, trusted: &[u8], buffer: &mut [u8]) -> 
         )
     };
     Judgement::of(code, steps)
+}
+
+/// The judge of several rights. The buffer has as many equal parts, and a right's steps fill the front of its own. Where
+/// the sheet is refused, so is each right.
+pub fn sheet(file: &[u8], rights: &[u8], buffer: &mut [u8]) -> Vec<Judgement> {
+    let mut entries: Vec<u8> = rights.iter().flat_map(|&right| [right, 0, 0, 0]).collect();
+    // SAFETY: pointers and lengths are those of slices that do not overlap; of these only entries
+    // and buffer, lent for writing, are written.
+    let refusal = unsafe {
+        access_sheet(
+            file.as_ptr(),
+            file.len(),
+            entries.as_mut_ptr(),
+            entries.len(),
+            buffer.as_mut_ptr(),
+            buffer.len(),
+        )
+    };
+    let answer = |entry: &[u8]| match refusal {
+        0 => Judgement::of(entry[1], u16::from_le_bytes([entry[2], entry[3]]).into()),
+        by => Judgement::Refused(by),
+    };
+    entries.chunks_exact(ENTRY_BYTES).map(answer).collect()
 }
 
 /// Whether all cells, three bytes each, can be held at the same moment. The steps fill the front of the buffer; the

@@ -35,6 +35,11 @@ pub const JUDGED_NAMES: usize = 30;
 /// A buffer for the judge, long enough for every file that it takes.
 pub const BUFFER_BYTES: usize = STEP_BYTES * (RIGHTS * (JUDGED_NAMES + 1) * (JUDGED_NAMES + 2) + 4);
 
+/// A sheet has at most 8 rights.
+pub const SHEET_RIGHTS: usize = 8;
+/// An entry of a sheet: right, code of the answer, number of steps, low byte first.
+pub const ENTRY_BYTES: usize = 4;
+
 /// A press asks for at most 8 cells at once.
 pub const NEEDED_CELLS: usize = 8;
 /// A cell that is asked for: right, subject, name.

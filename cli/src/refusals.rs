@@ -38,7 +38,7 @@ const fn refusal(
     }
 }
 
-pub const ALL: [Refusal; 20] = [
+pub const ALL: [Refusal; 21] = [
     refusal(
         1,
         WRITER,
@@ -174,5 +174,11 @@ pub const ALL: [Refusal; 20] = [
         "a name that is to be left out does not exist, is above 31, or is listed before",
         "list each trusted name once, and only names that exist; what the rules would have to \
          create first cannot be left out",
+    ),
+    refusal(
+        43,
+        ASKER,
+        "the sheet has more than 8 rights",
+        "put the rights on several sheets of at most 8. tugcaphi always does",
     ),
 ];

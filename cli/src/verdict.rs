@@ -8,7 +8,7 @@ use crate::failure::Failure;
 use crate::house::House;
 use crate::input::Content;
 use crate::library::{self, Judgement};
-use crate::limits::{BUFFER_BYTES, JUDGED_NAMES, STEP_BYTES};
+use crate::limits::{BUFFER_BYTES, JUDGED_NAMES, SHEET_RIGHTS, STEP_BYTES};
 use crate::machine::Held;
 use crate::reasons;
 use crate::story::{carry_out_all, leak, Done};
@@ -39,31 +39,47 @@ pub struct Leak {
     pub again: bool,
 }
 
-/// Asks the judge about one right of an accepted file, without the names that are trusted.
-pub fn judge(file: &[u8], house: &House, right: u8, without: &[u8]) -> Result<Verdict, Failure> {
-    let mut buffer = vec![0; BUFFER_BYTES];
-    let judgement = match without {
-        [] => library::judge(file, right, &mut buffer),
-        names => library::judge_part(file, right, names, &mut buffer),
-    };
-    let (written, ruling) = match judgement {
-        Judgement::Refused(refusal) => (0, Ruling::Refused(refusal)),
-        Judgement::Safe(n) => {
-            let part = house.matrix.without(without);
-            (n, Ruling::Safe(part.holding(usize::from(right))))
+/// Asks the judge about rights of an accepted file, sheet by sheet, without the names that are trusted.
+pub fn judge(
+    file: &[u8],
+    house: &House,
+    rights: &[u8],
+    without: &[u8],
+) -> Result<Vec<Verdict>, Failure> {
+    let mut verdicts = Vec::new();
+    for sheet in rights.chunks(SHEET_RIGHTS) {
+        let mut buffer = vec![0; BUFFER_BYTES * sheet.len()];
+        let judgements = judged(file, sheet, without, &mut buffer);
+        let parts = buffer.chunks_exact(BUFFER_BYTES);
+        for ((&right, judgement), part) in sheet.iter().zip(judgements).zip(parts) {
+            let trace = &part[..STEP_BYTES * judgement.steps() as usize];
+            let ruling = match judgement {
+                Judgement::Refused(refusal) => Ruling::Refused(refusal),
+                Judgement::Safe(_) => {
+                    let stays = house.matrix.without(without);
+                    Ruling::Safe(stays.holding(usize::from(right)))
+                }
+                Judgement::Unsafe(_) => Ruling::Unsafe(told(file, house, right, trace)?),
+            };
+            verdicts.push(Verdict {
+                right,
+                without: without.to_vec(),
+                trace: trace.to_vec(),
+                ruling,
+            });
         }
-        Judgement::Unsafe(n) => {
-            let trace = &buffer[..STEP_BYTES * n as usize];
-            (n, Ruling::Unsafe(told(file, house, right, trace)?))
-        }
-    };
-    buffer.truncate(STEP_BYTES * written as usize);
-    Ok(Verdict {
-        right,
-        without: without.to_vec(),
-        trace: buffer,
-        ruling,
-    })
+    }
+    Ok(verdicts)
+}
+
+/// Each right on its part of the buffer. A sheet leaves no names out.
+fn judged(file: &[u8], rights: &[u8], without: &[u8], buffer: &mut [u8]) -> Vec<Judgement> {
+    if without.is_empty() {
+        return library::sheet(file, rights, buffer);
+    }
+    let parts = buffer.chunks_exact_mut(BUFFER_BYTES);
+    let ask = |(&right, part): (&u8, &mut [u8])| library::judge_part(file, right, without, part);
+    rights.iter().zip(parts).map(ask).collect()
 }
 
 impl Verdict {

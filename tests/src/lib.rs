@@ -20,6 +20,7 @@ pub mod report;
 pub mod rounds;
 pub mod scene;
 pub mod second;
+pub mod sheet;
 pub mod stack;
 pub mod stored;
 pub mod table;

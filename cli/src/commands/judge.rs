@@ -55,10 +55,8 @@ fn run(arguments: &Arguments, view: &View) -> Result<Answer, Failure> {
             Some(names) => content.words.name_numbers(names)?,
             None => Vec::new(),
         };
-        let verdicts: Vec<Verdict> = asked(&arguments.plain[1..], content)?
-            .into_iter()
-            .map(|right| verdict::judge(&input.file, &content.house, right, &without))
-            .collect::<Result<_, _>>()?;
+        let rights = asked(&arguments.plain[1..], content)?;
+        let verdicts = verdict::judge(&input.file, &content.house, &rights, &without)?;
         if arguments.has("--trace") && verdicts.len() != 1 {
             let advice = "name the right: tugcaphi judge TABLE RIGHT --trace OUT";
             return Err(Failure::said(

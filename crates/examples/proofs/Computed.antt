@@ -16,8 +16,9 @@ use Rattle.trace.specs.Replays.{replayFrom}
 use Rattle.safety.specs.Judgement.{callerRefusal}
 use Rattle.needs.specs.Needed.{listRefusal}
 use Rattle.parts.specs.Parts.{listedIn, trustedRefusal}
+use Rattle.sheets.specs.Sheets.{sheetRefusal}
 use Rattle.listing.specs.Listing.{digits}
 
 unfoldable pub computed : Unit {0}
-unfolding stepRead iterate all number lowestFree rounds count judgeBeside kindsOf cellsOf cellFits matrixRefusal startOf headerRefusal pairsRefusal sizesRefusal conditionFits operationFits commandRefusal commandOf commandsRefusal commandTable policyOf written replayFrom callerRefusal listRefusal listedIn trustedRefusal digits
+unfolding stepRead iterate all number lowestFree rounds count judgeBeside kindsOf cellsOf cellFits matrixRefusal startOf headerRefusal pairsRefusal sizesRefusal conditionFits operationFits commandRefusal commandOf commandsRefusal commandTable policyOf written replayFrom callerRefusal listRefusal listedIn trustedRefusal sheetRefusal digits
 computed = tt

@@ -9,6 +9,7 @@ use Rattle.examples.specs.Replays.{replayCases}
 use Rattle.examples.specs.Judgements.{callerCases, roundCases, createCases, closingCases}
 use Rattle.examples.specs.Needs.{needCases}
 use Rattle.examples.specs.Trusted.{trustedCases}
+use Rattle.examples.specs.Sheets.{sheetCases}
 use Rattle.examples.specs.Table.{parts, table, AllCases}
 use Rattle.examples.proofs.Computed.{computed}
 use Rattle.examples.proofs.Tests.{failing, NoneFail, none-fail}
@@ -66,6 +67,10 @@ trustedCases-hold : failing trustedCases ≡ []
 unfolding computed
 trustedCases-hold = refl
 
+sheetCases-hold : failing sheetCases ≡ []
+unfolding computed
+sheetCases-hold = refl
+
 -- ---- the claim
 -- a part before those behind it
 infixr 40 _▸_
@@ -73,7 +78,7 @@ abbrev _▸_ : {A B : Type 0} → A → B → A × B
 a ▸ b = (a, b)
 
 none : NoneFail parts
-none = slipCases-hold ▸ headerCases-hold ▸ matrixCases-hold ▸ ruleCases-hold ▸ refusedCases-hold ▸ doneCases-hold ▸ replayCases-hold ▸ callerCases-hold ▸ roundCases-hold ▸ createCases-hold ▸ closingCases-hold ▸ needCases-hold ▸ trustedCases-hold ▸ tt
+none = slipCases-hold ▸ headerCases-hold ▸ matrixCases-hold ▸ ruleCases-hold ▸ refusedCases-hold ▸ doneCases-hold ▸ replayCases-hold ▸ callerCases-hold ▸ roundCases-hold ▸ createCases-hold ▸ closingCases-hold ▸ needCases-hold ▸ trustedCases-hold ▸ sheetCases-hold ▸ tt
 
 pub all-cases : AllCases table
 all-cases = record { named = refl; every-refusal = refl; hold = none-fail parts none }

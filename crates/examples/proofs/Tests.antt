@@ -5,8 +5,8 @@ use mathlib.Core.Path.{_≡_, refl, ap, ap₂, subst, _∙_}
 use mathlib.Core.Bool.{Bool, true, false, _&&_}
 use mathlib.Core.List.{List, [], _∷_, _++_}
 use native.Mathlib.Omega.{arith}
-use lib.Dec.{T, eqb, leb, eqb→eq}
-use lib.ListN.{length}
+use lib.Dec.{T, eqb, ltb, leb, eqb→eq}
+use lib.ListN.{length, take, drop}
 use Rattle.cases.specs.Cases.{pick}
 use Rattle.cases.proofs.Bools.{and-left, and-right}
 use Rattle.protection.specs.Command.{Call}
@@ -27,9 +27,11 @@ use Rattle.needs.specs.Needed.{listRefusal, needRefusal, fileRounds, needOf, fi
 use Rattle.needs.specs.declared.Need.{Need}
 use Rattle.needs.specs.declared.Need.the-variants.{Refused as NeedRefused, Held, Never}
 use Rattle.parts.specs.Parts.{trustedRefusal, partRefusal, partVerdict, partJudgement, partBuffer}
+use Rattle.sheets.specs.Sheets.{sheetLimit, sheetRefusal, entryOf, answers, partLength, partsFilled, sheetAfter, bufferAfter}
+use Rattle.sheets.specs.declared.Entry.{Entry}
 use Rattle.listing.specs.Listing.{printed, bufferBytes, listing}
 use Rattle.examples.specs.Build.{joined}
-use Rattle.examples.specs.Cases.{Case, checks, runs, replays, judges, judgesPart, needs, prints, Holds, Row, AllHold}
+use Rattle.examples.specs.Cases.{Case, checks, runs, replays, judges, judgesPart, needs, asks, prints, Holds, Row, AllHold}
 use Rattle.examples.proofs.Walk.{walkedRefusal, refusal-walked}
 
 -- ---- equality, as a test
@@ -111,6 +113,31 @@ same-need (Never n) (NeedRefused m) t = absurd t
 same-need (Never n) (Held m) t = absurd t
 same-need (Never n) (Never m) t = ap Never (eqb→eq n m t)
 
+abbrev sameQuestion : Entry → Entry → Bool
+sameQuestion p q = eqb (p .right) (q .right) && (eqb (p .verdict) (q .verdict) && eqb (p .count) (q .count))
+
+same-question : (p q : Entry) → T (sameQuestion p q) → p ≡ q
+same-question p q t =
+    let a = eqb (p .right) (q .right) in
+    let b = eqb (p .verdict) (q .verdict) in
+    let c = eqb (p .count) (q .count) in
+    let r = eqb→eq (p .right) (q .right) (and-left a (b && c) t) in
+    let v = eqb→eq (p .verdict) (q .verdict) (and-left b c (and-right a (b && c) t)) in
+    let n = eqb→eq (p .count) (q .count) (and-right b c (and-right a (b && c) t)) in
+    λ i. record { right = r i; verdict = v i; count = n i }
+
+abbrev sameSheet : List Entry → List Entry → Bool
+sameSheet [] [] = true
+sameSheet [] (q ∷ t) = false
+sameSheet (p ∷ s) [] = false
+sameSheet (p ∷ s) (q ∷ t) = sameQuestion p q && sameSheet s t
+
+same-sheet : (s t : List Entry) → T (sameSheet s t) → s ≡ t
+same-sheet [] [] h = refl
+same-sheet [] (q ∷ t) h = absurd h
+same-sheet (p ∷ s) [] h = absurd h
+same-sheet (p ∷ s) (q ∷ t) h = ap₂ _∷_ (same-question p q (and-left (sameQuestion p q) (sameSheet s t) h)) (same-sheet s t (and-right (sameQuestion p q) (sameSheet s t) h))
+
 -- ---- the calls, with a number z in place of the file's refusal
 abbrev codeAt : ℕ → List ℕ → Call → ℕ
 codeAt z f x = orElse z (codeOf (fileOutcome f x))
@@ -153,6 +180,20 @@ needAt z f l n = pick (eqb (needRefusalAt z f l n) 0) (needOf (fileRounds f l)) 
 abbrev needBufferAt : ℕ → List ℕ → List ℕ → List ℕ → List ℕ
 needBufferAt z f l b = pick (eqb (needRefusalAt z f l (length b)) 0) (filled (fileRounds f l .steps) b) b
 
+abbrev answersAt : ℕ → List ℕ → ℕ → List Entry → List Entry
+answersAt z f k [] = []
+answersAt z f k (q ∷ s) = entryOf (q .right) (judgementAt z f (q .right) k) ∷ answersAt z f k s
+
+abbrev partsAt : ℕ → List ℕ → ℕ → List Entry → List ℕ → List ℕ
+partsAt z f k [] b = b
+partsAt z f k (q ∷ s) b = bufferAt z f (q .right) (take k b) ++ partsAt z f k s (drop k b)
+
+abbrev sheetAt : ℕ → List ℕ → List Entry → List ℕ → List Entry
+sheetAt z f s b = pick (ltb sheetLimit (length s)) s (answersAt z f (partLength s b) s)
+
+abbrev sheetBufferAt : ℕ → List ℕ → List Entry → List ℕ → List ℕ
+sheetBufferAt z f s b = pick (ltb sheetLimit (length s)) b (partsAt z f (partLength s b) s b)
+
 abbrev listingAt : ℕ → List ℕ → List ℕ
 listingAt z [] = listing []
 listingAt z (r ∷ f) = printed (policyOf f) (judgementAt z f r bufferBytes) (fileVerdict f r .steps)
@@ -169,6 +210,7 @@ fileIn (replays f t r answer) = f
 fileIn (judges f r b answer b') = f
 fileIn (judgesPart f r l b answer b') = f
 fileIn (needs f l b answer b') = f
+fileIn (asks f s b r s' b') = f
 fileIn (prints input out) = behind input
 
 abbrev testAt : ℕ → Case → Bool
@@ -178,6 +220,7 @@ testAt z (replays f t r answer) = sameReplay answer (replayAt z f t r)
 testAt z (judges f r b answer b') = sameJudgement answer (judgementAt z f r (length b)) && sameBytes b' (bufferAt z f r b)
 testAt z (judgesPart f r l b answer b') = sameJudgement answer (partJudgementAt z f r l (length b)) && sameBytes b' (partBufferAt z f r l b)
 testAt z (needs f l b answer b') = sameNeed answer (needAt z f l (length b)) && sameBytes b' (needBufferAt z f l b)
+testAt z (asks f s b r s' b') = eqb r (sheetRefusal s) && (sameSheet s' (sheetAt z f s b) && sameBytes b' (sheetBufferAt z f s b))
 testAt z (prints input out) = sameBytes out (listingAt z input)
 
 printed-is : (input : List ℕ) → listingAt (refusal (behind input)) input ≡ listing input
@@ -185,8 +228,18 @@ unfolding judgeRefusal fileJudgement
 printed-is [] = refl
 printed-is (r ∷ f) = refl
 
+answers-are : (f : List ℕ) (k : ℕ) (s : List Entry) → answersAt (refusal f) f k s ≡ answers f k s
+unfolding judgeRefusal fileJudgement
+answers-are f k [] = refl
+answers-are f k (q ∷ s) = ap (λ (t : List Entry). entryOf (q .right) (judgementAt (refusal f) f (q .right) k) ∷ t) (answers-are f k s)
+
+parts-are : (f : List ℕ) (k : ℕ) (s : List Entry) (b : List ℕ) → partsAt (refusal f) f k s b ≡ partsFilled f k s b
+unfolding judgeRefusal fileBuffer
+parts-are f k [] b = refl
+parts-are f k (q ∷ s) b = ap (λ (t : List ℕ). bufferAt (refusal f) f (q .right) (take k b) ++ t) (parts-are f k s (drop k b))
+
 holds : (c : Case) → T (testAt (refusal (fileIn c)) c) → Holds c
-unfolding runCode runFile fileReplay judgeRefusal fileJudgement fileBuffer partRefusal partJudgement partBuffer needRefusal fileNeed needBuffer
+unfolding runCode runFile fileReplay judgeRefusal fileJudgement fileBuffer partRefusal partJudgement partBuffer needRefusal fileNeed needBuffer sheetAfter bufferAfter
 holds (checks f n) t = eqb→eq n (refusal f) t
 holds (runs f x n f') t =
     let a = eqb n (codeAt (refusal f) f x) in
@@ -205,6 +258,15 @@ holds (needs f l b answer b') t =
     let c = sameNeed answer (needAt (refusal f) f l (length b)) in
     let d = sameBytes b' (needBufferAt (refusal f) f l b) in
     record { answer-is = same-need answer (needAt (refusal f) f l (length b)) (and-left c d t); buffer-is = same-bytes b' (needBufferAt (refusal f) f l b) (and-right c d t) }
+holds (asks f s b r s' b') t =
+    let c = eqb r (sheetRefusal s) in
+    let d = sameSheet s' (sheetAt (refusal f) f s b) in
+    let e = sameBytes b' (sheetBufferAt (refusal f) f s b) in
+    record {
+      code-is = eqb→eq r (sheetRefusal s) (and-left c (d && e) t);
+      sheet-is = same-sheet s' (sheetAt (refusal f) f s b) (and-left d e (and-right c (d && e) t)) ∙ ap (pick (ltb sheetLimit (length s)) s) (answers-are f (partLength s b) s);
+      buffer-is = same-bytes b' (sheetBufferAt (refusal f) f s b) (and-right d e (and-right c (d && e) t)) ∙ ap (pick (ltb sheetLimit (length s)) b) (parts-are f (partLength s b) s b);
+    }
 holds (prints input out) t = same-bytes out (listingAt (refusal (behind input)) input) t ∙ printed-is input
 
 -- ---- the rows that fail

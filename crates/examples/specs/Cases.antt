@@ -14,6 +14,8 @@ use Rattle.safety.specs.declared.Judgement.{Judgement}
 use Rattle.needs.specs.Needed.{fileNeed, needBuffer}
 use Rattle.needs.specs.declared.Need.{Need}
 use Rattle.parts.specs.Parts.{partJudgement, partBuffer}
+use Rattle.sheets.specs.Sheets.{sheetRefusal, sheetAfter, bufferAfter}
+use Rattle.sheets.specs.declared.Entry.{Entry}
 use Rattle.listing.specs.Listing.{listing}
 
 pub data Case : Type 0 where
@@ -29,6 +31,8 @@ pub data Case : Type 0 where
   judgesPart : List ℕ → ℕ → List ℕ → List ℕ → Judgement → List ℕ → Case
   -- a need is lent the file, the list of cells and the buffer; its answer, and the buffer after it
   needs : List ℕ → List ℕ → List ℕ → Need → List ℕ → Case
+  -- a sheet of questions on the file, with the buffer; its code, and the sheet and the buffer after it
+  asks : List ℕ → List Entry → List ℕ → ℕ → List Entry → List ℕ → Case
   -- what the desk program reads, and what it prints
   prints : List ℕ → List ℕ → Case
 
@@ -52,6 +56,12 @@ pub record FileNeeded (f l b : List ℕ) (answer : Need) (b' : List ℕ) : Type 
   pub answer-is : answer ≡ fileNeed f l (length b)
   pub buffer-is : b' ≡ needBuffer f l b
 
+-- the three equations of a sheet's contract; the rest is one theorem for every input
+pub record FileSheeted (f : List ℕ) (s : List Entry) (b : List ℕ) (r : ℕ) (s' : List Entry) (b' : List ℕ) : Type 0 where
+  pub code-is : r ≡ sheetRefusal s
+  pub sheet-is : s' ≡ sheetAfter f s b
+  pub buffer-is : b' ≡ bufferAfter f s b
+
 abbrev pub Holds : Case → Type 0
 Holds (checks f n) = n ≡ refusal f
 Holds (runs f x n f') = FileRan f x n f'
@@ -59,6 +69,7 @@ Holds (replays f t r answer) = answer ≡ fileReplay f t r
 Holds (judges f r b answer b') = FileJudged f r b answer b'
 Holds (judgesPart f r l b answer b') = FilePartJudged f r l b answer b'
 Holds (needs f l b answer b') = FileNeeded f l b answer b'
+Holds (asks f s b r s' b') = FileSheeted f s b r s' b'
 Holds (prints input out) = out ≡ listing input
 
 -- ---- rows

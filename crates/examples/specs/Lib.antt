@@ -7,4 +7,5 @@ pub mod Replays
 pub mod Judgements
 pub mod Needs
 pub mod Trusted
+pub mod Sheets
 pub mod Table

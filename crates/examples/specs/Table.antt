@@ -14,7 +14,7 @@ use Rattle.safety.specs.declared.Judgement.the-variants.{Refused, Safe, Unsafe}
 use Rattle.needs.specs.declared.Need.{Need}
 use Rattle.needs.specs.declared.Need.the-variants.{Refused as NeedRefused, Held, Never}
 use Rattle.examples.specs.Build.{joined}
-use Rattle.examples.specs.Cases.{Case, checks, runs, replays, judges, judgesPart, needs, prints, Row, rowNames, AllHold}
+use Rattle.examples.specs.Cases.{Case, checks, runs, replays, judges, judgesPart, needs, asks, prints, Row, rowNames, AllHold}
 use Rattle.examples.specs.Slips.{slipCases}
 use Rattle.examples.specs.Files.{headerCases, matrixCases, ruleCases}
 use Rattle.examples.specs.Runs.{refusedCases, doneCases}
@@ -22,9 +22,10 @@ use Rattle.examples.specs.Replays.{replayCases}
 use Rattle.examples.specs.Judgements.{callerCases, roundCases, createCases, closingCases}
 use Rattle.examples.specs.Needs.{needCases}
 use Rattle.examples.specs.Trusted.{trustedCases}
+use Rattle.examples.specs.Sheets.{sheetCases}
 
 abbrev pub parts : List (List Row)
-parts = slipCases ∷ headerCases ∷ matrixCases ∷ ruleCases ∷ refusedCases ∷ doneCases ∷ replayCases ∷ callerCases ∷ roundCases ∷ createCases ∷ closingCases ∷ needCases ∷ trustedCases ∷ []
+parts = slipCases ∷ headerCases ∷ matrixCases ∷ ruleCases ∷ refusedCases ∷ doneCases ∷ replayCases ∷ callerCases ∷ roundCases ∷ createCases ∷ closingCases ∷ needCases ∷ trustedCases ∷ sheetCases ∷ []
 
 abbrev pub table : List Row
 table = joined parts
@@ -253,11 +254,24 @@ required =
     "part: given back in a cell of the whole" ∷
     "part: not in one of the part" ∷
     "part: given back in a cell of the part" ∷
+    "sheet: no entry" ∷
+    "sheet: no entry, and a bad file" ∷
+    "sheet: one entry, the whole buffer" ∷
+    "sheet: two entries, each on its half" ∷
+    "sheet: the same right twice" ∷
+    "sheet: an old answer is written over" ∷
+    "sheet: 161 bytes, the last one stays" ∷
+    "sheet: 21 in one entry, its neighbours answered" ∷
+    "sheet: 24 in both, parts of 79 bytes" ∷
+    "sheet: 8 entries" ∷
+    "sheet: 43, 9 entries" ∷
+    "sheet: 43 before the file's refusal" ∷
+    "sheet: a bad file, its refusal in each entry" ∷
     []
 
 -- every refusal of document 01 and of document 02 as far as it is built is the answer of some row; 13 is given by nobody since document 02, C-11
 abbrev pub refusals : List ℕ
-refusals = 1 ∷ 2 ∷ 3 ∷ 4 ∷ 5 ∷ 6 ∷ 7 ∷ 8 ∷ 9 ∷ 11 ∷ 12 ∷ 14 ∷ 15 ∷ 21 ∷ 22 ∷ 23 ∷ 24 ∷ 31 ∷ 41 ∷ 42 ∷ []
+refusals = 1 ∷ 2 ∷ 3 ∷ 4 ∷ 5 ∷ 6 ∷ 7 ∷ 8 ∷ 9 ∷ 11 ∷ 12 ∷ 14 ∷ 15 ∷ 21 ∷ 22 ∷ 23 ∷ 24 ∷ 31 ∷ 41 ∷ 42 ∷ 43 ∷ []
 
 abbrev pub replayRefused : Replay → ℕ
 replayRefused NoLeak = 0
@@ -282,6 +296,7 @@ refusedBy (replays f t r answer) = replayRefused answer
 refusedBy (judges f r b answer b') = judgementRefused answer
 refusedBy (judgesPart f r l b answer b') = judgementRefused answer
 refusedBy (needs f l b answer b') = needRefusedBy answer
+refusedBy (asks f s b r s' b') = r
 refusedBy (prints input out) = 0
 
 abbrev pub answered : ℕ → List Row → Bool

@@ -2,3 +2,4 @@ pub mod Replay
 pub mod Judge
 pub mod Part
 pub mod Need
+pub mod Sheet

@@ -1,5 +1,9 @@
 // The C boundary: numbers and byte slices, no `requires`. A slice is passed as a pointer and a length.
 ghost use mathlib.Core.Path.{_≡_};
+ghost use mathlib.Core.List.{[], _∷_, _++_};
+ghost use Prim.Native.Nat.{_+_, _*_, _≤_, _<_};
+ghost use lib.ListN.{length, take, drop};
+ghost use Rattle.cases.specs.Cases.{tabulate};
 ghost use Rattle.policy.specs.Refusals.{refusal};
 ghost use Rattle.update.specs.Files.{FileRun};
 ghost use Rattle.trace.specs.Replays.{fileReplay};
@@ -9,8 +13,10 @@ ghost use Rattle.exports.specs.Replay.{ReplayAnswer};
 ghost use Rattle.exports.specs.Judge.{JudgeAnswer};
 ghost use Rattle.exports.specs.Part.{PartAnswer};
 ghost use Rattle.exports.specs.Need.{NeedAnswer};
+ghost use Rattle.exports.specs.Sheet.{entryAt, entryBytes, entriesWritten, SheetAnswer};
 use needs::Need;
 use safety::Judgement;
+use sheets::Entry;
 use trace::Replay;
 
 // The refusal of whoever wrote the file, 1 to 9, or 0.
@@ -124,4 +130,83 @@ pub extern "C" fn access_need(file: &[u8], list: &[u8], buffer: &mut [u8], steps
             0
         }
     }
+}
+
+// The bytes of an entry of a sheet: the right, the code of its answer, and the number of steps, low byte first.
+const ENTRY: usize = 4;
+
+// The question of entry i, its answer not given yet.
+fn entry_at(entries: &[u8], i: usize) -> Entry
+    requires { ⌜ i < 8 ⌝ }
+    ensures { λ r. ⌜ r ≡ entryAt (now (entries .entry)) i ⌝ }
+{
+    let at = ENTRY * i;
+    if at < entries.len() {
+        return Entry {
+            right: entries[at],
+            verdict: 0,
+            count: 0,
+        };
+    }
+    Entry {
+        right: 0,
+        verdict: 0,
+        count: 0,
+    }
+}
+
+// The first eight.
+fn entries_in(entries: &[u8]) -> [Entry; Entry::SHEET]
+    ensures { λ r. ⌜ r ≡ tabulate (entryAt (now (entries .entry))) 8 0 ⌝ }
+{
+    [
+        entry_at(entries, 0),
+        entry_at(entries, 1),
+        entry_at(entries, 2),
+        entry_at(entries, 3),
+        entry_at(entries, 4),
+        entry_at(entries, 5),
+        entry_at(entries, 6),
+        entry_at(entries, 7),
+    ]
+}
+
+// Entry i, as bytes.
+fn write_entry(entries: &mut [u8], i: usize, q: Entry)
+    requires { ⌜ 4 * i + 4 ≤ length (now entries) ⌝ }
+    ensures { λ r. ⌜ now (entries .exit) ≡ take (4 * i) (now (entries .entry)) ++ (entryBytes (q ∷ []) ++ drop (4 * i + 4) (now (entries .entry))) ⌝ }
+{
+    let at = ENTRY * i;
+    entries[at] = q.right;
+    entries[at + 1] = q.verdict;
+    entries[at + 2] = (q.count % 256) as u8;
+    entries[at + 3] = (q.count / 256) as u8;
+}
+
+// The first n entries, as bytes.
+fn write_entries(entries: &mut [u8], sheet: [Entry; Entry::SHEET], n: usize)
+    requires { ⌜ (n ≤ 8) × (length sheet ≡ 8) × (4 * n ≤ length (now entries)) ⌝ }
+    ensures { λ r. ⌜ now (entries .exit) ≡ entriesWritten (take n sheet) (now (entries .entry)) ⌝ }
+{
+    for i in 0..n {
+        let q = sheet[i];
+        write_entry(entries, i, q);
+    }
+}
+
+// Answers a sheet, its entries as bytes: 0 with every entry's answer in its place, or 43 for more than eight entries.
+#[no_mangle]
+pub extern "C" fn access_sheet(file: &[u8], entries: &mut [u8], buffer: &mut [u8]) -> u8
+    ensures { λ r. ⌜ SheetAnswer (now (file .entry)) (now (entries .entry)) (now (buffer .entry)) r (now (entries .exit)) (now (buffer .exit)) ⌝ }
+{
+    let n = entries.len() / ENTRY;
+    let asked = entries_in(entries);
+    let sheet = sheets::sheet_of(file, asked, n, buffer);
+    let refused = sheet.refused;
+    if refused != 0 {
+        return refused;
+    }
+    let answered = sheet.entries;
+    write_entries(entries, answered, n);
+    0
 }

@@ -10,6 +10,7 @@ use Rattle.cases.specs.Cases.{pick}
 use Rattle.protection.specs.Limits.{rights, startNames}
 use Rattle.protection.specs.Size.{namesOf, stepBound}
 use Rattle.layout.specs.File.{rightsOf}
+use Rattle.layout.specs.Refusals.{orElse}
 use Rattle.policy.specs.Refusals.{refusal}
 use Rattle.policy.specs.Contents.{policyOf, fileState, fileSystem}
 use Rattle.policy.proofs.Accepted.{accepted}
@@ -29,7 +30,7 @@ never-24 f r z =
     go (leb (fileSystem f .rights) r) (singleOperations (fileSystem f .commands)) (ltb startNames (namesOf (fileState f))) refl (ltb bufferBytes (5 * stepBound (fileSystem f .rights) (fileState f))) refl
   where
     go : (a b c : Bool) → ltb startNames (namesOf (fileState f)) ≡ c → (d : Bool) → ltb bufferBytes (5 * stepBound (fileSystem f .rights) (fileState f)) ≡ d
-        → _≡_ {A = ℕ} (pick a 21 (pick (not b) 22 (pick c 23 (pick d 24 0)))) 24 → ⊥
+        → _≡_ {A = ℕ} (pick a 21 (orElse (pick (not b) 22 (pick c 23 0)) (pick d 24 0))) 24 → ⊥
     go true b c u d v e = omega arith
     go false false c u d v e = omega arith
     go false true true u d v e = omega arith

@@ -31,7 +31,7 @@ use Rattle.policy.proofs.Accepted.{accepted}
 use Rattle.policy.proofs.FileState.{policy-fits}
 use Rattle.policy.proofs.Laws.{read-refusal, read-policy}
 use Rattle.policy.proofs.ReadPolicy.{policy-fits-read}
-use Rattle.goals.specs.Goals.{cellsIn, heldGoal, questionOf, GoalFits}
+use Rattle.goals.specs.Goals.{cellLimit, cellsIn, heldGoal, questionOf, GoalFits}
 use Rattle.goals.specs.declared.Goal.{Goal}
 use Rattle.goals.proofs.Ending.{none-reserved}
 use Rattle.goals.proofs.Lists.{held-needs}
@@ -39,7 +39,8 @@ use Rattle.trace.specs.Traces.{stepCall, calls}
 use Rattle.visits.specs.Engine.{Course, progressOf, Asked}
 use Rattle.visits.proofs.Asked.{taken, room-left}
 use Rattle.questions.specs.Refusals.{sizeRefusal}
-use Rattle.questions.specs.Rounded.{Ended}
+use Rattle.questions.specs.Rounded.{BasisOf, Ended}
+use Rattle.questions.specs.declared.Basis.{Basis}
 use Rattle.questions.proofs.Refusals.{open-asked}
 use Rattle.safety.specs.Judgement.{filled}
 use Rattle.safety.proofs.Buffers.{calls-back, buffer-filled}
@@ -88,6 +89,9 @@ passed f l n e =
 -- the policy's question is asked
 pub list-fits : (p : Policy) (l : List ℕ) → PolicyFits p → listRefusal (systemOf p) (stateOf (p .matrix)) l ≡ 0 → GoalFits (heldGoal l)
 list-fits p l F e = goal-fits (p .rights) (stateOf (p .matrix)) l (F .few-rights) (view-proper (p .rights) (p .matrix .kinds) (p .matrix .cells) (F .matrix-fits)) (listed (systemOf p) (stateOf (p .matrix)) l e)
+
+pub list-few : (p : Policy) (l : List ℕ) (i : ℕ) → i ≡ listRefusal (systemOf p) (stateOf (p .matrix)) l → i ≡ 0 → length l ≤ 3 * cellLimit
+list-few p l i e z = listed (systemOf p) (stateOf (p .matrix)) l (sym e ∙ z) .few
 
 module _ (f l b : List ℕ) where
   abbrev z : ℕ
@@ -200,28 +204,30 @@ module _ (f l b : List ℕ) where
       unfolding needRefusal policyOf
       refusal-is = or-second (refusal f) _ accepted-is ∙ ap (λ (p : Policy). orElse (sizeRefusal (systemOf p) (stateOf (p .matrix)) (length b)) (listRefusal (systemOf p) (stateOf (p .matrix)) l)) (sym policy-is)
 
-      pub size-refused : (k : ℕ) → k ≡ by-size → (k ≡ 0 → ⊥) → Needed f l b (Refused k) b
-      size-refused k e ne = refused-with k ne (refusal-is ∙ or-first by-size by-list (λ q. ne (e ∙ q)) ∙ sym e)
+      -- k is the answer for whatever policy has this basis
+      module _ (B : Basis) (K : BasisOf (x .policy) B) (k : ℕ) (h : (q : Policy) → BasisOf q B → k ≡ sizeRefusal (systemOf q) (stateOf (q .matrix)) (length b)) where
+        e : k ≡ by-size
+        e = h (x .policy) K
 
-      module _ (k : ℕ) (e : k ≡ by-size) (n : k ≡ 0) where
-        pub list-refused : (i : ℕ) → i ≡ by-list → (i ≡ 0 → ⊥) → Needed f l b (Refused i) b
-        list-refused i g ne = refused-with i ne (refusal-is ∙ or-second by-size by-list (sym e ∙ n) ∙ sym g)
+        pub size-refused : (k ≡ 0 → ⊥) → Needed f l b (Refused k) b
+        size-refused ne = refused-with k ne (refusal-is ∙ or-first by-size by-list (λ q. ne (e ∙ q)) ∙ sym e)
 
-        module _ (i : ℕ) (g : i ≡ by-list) (o : i ≡ 0) where
-          fits : PolicyFits (x .policy)
-          fits = policy-fits-read f x d u
+        module _ (n : k ≡ 0) where
+          pub list-refused : (i : ℕ) → i ≡ by-list → (i ≡ 0 → ⊥) → Needed f l b (Refused i) b
+          list-refused i g ne = refused-with i ne (refusal-is ∙ or-second by-size by-list (sym e ∙ n) ∙ sym g)
 
-          pub file-asked : Asked (x .policy) (heldGoal l) (length b)
-          file-asked = open-asked (x .policy) (heldGoal l) (length b) refl (sym e ∙ n) fits (list-fits (x .policy) l fits (sym g ∙ o))
+          module _ (i : ℕ) (g : i ≡ by-list) (o : i ≡ 0) where
+            fits : PolicyFits (x .policy)
+            fits = policy-fits-read f x d u
 
-          pub list-few : length l ≤ 24
-          list-few = listed (systemOf (x .policy)) (stateOf (x .policy .matrix)) l (sym g ∙ o) .few
+            pub file-asked : Asked (x .policy) (heldGoal l) (length b)
+            file-asked = open-asked (x .policy) (heldGoal l) (length b) refl (sym e ∙ n) fits (list-fits (x .policy) l fits (sym g ∙ o))
 
-          rounds-are : needRounds (x .policy) l ≡ fileRounds f l
-          unfolding policyOf
-          rounds-are = ap (λ (p : Policy). needRounds p l) policy-is
+            rounds-are : needRounds (x .policy) l ≡ fileRounds f l
+            unfolding policyOf
+            rounds-are = ap (λ (p : Policy). needRounds p l) policy-is
 
-          pub file-needed : (answer : Need) (b' : List ℕ) → NeedRounded (x .policy) l b answer b' → Needed f l b answer b'
-          file-needed answer b' R =
-              let q : needRefusal f l (length b) ≡ 0 = refusal-is ∙ or-second by-size by-list (sym e ∙ n) ∙ sym g ∙ o in
-              needed f l b answer b' (R .answer-is ∙ ap needOf rounds-are ∙ sym (need-is f l b q)) (R .buffer-is ∙ ap (λ (w : Progress). filled (w .steps) b) rounds-are ∙ sym (buffer-is f l b q))
+            pub file-needed : (answer : Need) (b' : List ℕ) → NeedRounded (x .policy) l b answer b' → Needed f l b answer b'
+            file-needed answer b' R =
+                let q : needRefusal f l (length b) ≡ 0 = refusal-is ∙ or-second by-size by-list (sym e ∙ n) ∙ sym g ∙ o in
+                needed f l b answer b' (R .answer-is ∙ ap needOf rounds-are ∙ sym (need-is f l b q)) (R .buffer-is ∙ ap (λ (w : Progress). filled (w .steps) b) rounds-are ∙ sym (buffer-is f l b q))

@@ -9,13 +9,15 @@ ghost use Rattle.matrix.specs.Bytes.{view};
 ghost use Rattle.matrix.specs.Matrices.{stateOf};
 ghost use Rattle.policy.specs.Contents.{systemOf};
 ghost use Rattle.policy.specs.Fits.{PolicyFits};
-ghost use Rattle.goals.specs.Goals.{neededAt, heldGoal};
+ghost use Rattle.goals.specs.Goals.{cellLimit, neededAt, heldGoal};
+ghost use Rattle.questions.specs.Rounded.{BasisOf};
 ghost use Rattle.visits.specs.Engine.{Asked};
 ghost use Rattle.needs.specs.Needed.{cellTaken, cellsTaken, listRefusal, Needed};
 ghost use Rattle.needs.specs.Rounds.{NeedRounded};
 use goals::Goal;
 use matrix::Matrix;
 use policy::Policy;
+use questions::Basis;
 
 // The answer: document 01's or 02's refusal, or whether all cells are held at some moment, with the number of steps written.
 pub enum Need {
@@ -87,8 +89,8 @@ fn list_refusal(p: Policy, list: &[u8]) -> u8
 }
 
 // The rounds, on a copy of the state.
-fn needed(p: Policy, list: &[u8], buffer: &mut [u8]) -> Need
-    requires { ⌜ Asked p (heldGoal (now list)) (length (now buffer)) × (length (now list) ≤ 24) ⌝ }
+fn needed(p: Policy, basis: Basis, list: &[u8], buffer: &mut [u8]) -> Need
+    requires { ⌜ Asked p (heldGoal (now list)) (length (now buffer)) × (length (now list) ≤ 3 * cellLimit) × BasisOf p basis ⌝ }
     ensures { λ r. ⌜ NeedRounded p (now (list .entry)) (now (buffer .entry)) r (now (buffer .exit)) ⌝ }
 {
     let matrix = p.matrix;
@@ -98,7 +100,16 @@ fn needed(p: Policy, list: &[u8], buffer: &mut [u8]) -> Need
     let mut row = tables.row;
     let mut col = tables.col;
     let goal = Goal::held(list);
-    let course = questions::all_rounds(p, goal, &mut kinds, &mut cells, &mut row, &mut col, buffer);
+    let course = questions::all_rounds(
+        p,
+        goal,
+        basis,
+        &mut kinds,
+        &mut cells,
+        &mut row,
+        &mut col,
+        buffer,
+    );
     if course.ended {
         return Need::Held(course.steps);
     }
@@ -115,7 +126,8 @@ pub fn need_file(file: &[u8], list: &[u8], buffer: &mut [u8]) -> Need
         return Need::Refused(refused);
     }
     let p = read.policy;
-    let sized = questions::size_refusal(p, buffer.len());
+    let basis = questions::basis_of(p);
+    let sized = questions::size_refusal(basis, buffer.len());
     if sized != 0 {
         return Need::Refused(sized);
     }
@@ -123,5 +135,5 @@ pub fn need_file(file: &[u8], list: &[u8], buffer: &mut [u8]) -> Need
     if listed != 0 {
         return Need::Refused(listed);
     }
-    needed(p, list, buffer)
+    needed(p, basis, list, buffer)
 }

@@ -262,6 +262,9 @@ module _ (p : Policy) (z r : ℕ) (q : Policy) (e : q ≡ partOf p z) where
   pub without-asked : (n : ℕ) → Asked (partOf p z) (leakGoal z r) n → Asked q (leakGoal z r) n
   without-asked n A = subst (λ (y : Policy). Asked y (leakGoal z r) n) (sym e) A
 
+  pub without-fits : (n : ℕ) → Asked (partOf p z) (leakGoal z r) n → PolicyFits q
+  without-fits n A = without-asked n A .fits
+
   pub without-below : r < p .rights → r < q .rights
   unfolding partOf
   without-below h = subst (λ (y : Policy). r < y .rights) (sym e) h

@@ -114,7 +114,10 @@ fn judge_without(p: Policy, mask: u32, right: u8, buffer: &mut [u8]) -> Judgemen
     ensures { λ r. ⌜ Concluded (partOf p mask) mask right (now (buffer .entry)) r (now (buffer .exit)) ⌝ }
 {
     let part = part_of(p, mask);
-    safety::judge(part, mask, right, buffer)
+    let basis = questions::basis_of(part);
+    let start = part.matrix;
+    let tables = masks::build(&start.cells);
+    safety::judge(part, basis, tables, mask, right, buffer)
 }
 
 // Can the right ever come into a cell that lacks it, if the names on the list do nothing? The steps go to the front of the buffer.
@@ -127,7 +130,8 @@ pub fn judge_part(file: &[u8], right: u8, list: &[u8], buffer: &mut [u8]) -> Jud
         return Judgement::Refused(refused);
     }
     let p = read.policy;
-    let by = safety::caller_refusal(p, right, buffer.len());
+    let basis = questions::basis_of(p);
+    let by = safety::caller_refusal(p, basis, right, buffer.len());
     if by != 0 {
         return Judgement::Refused(by);
     }

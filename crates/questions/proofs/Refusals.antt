@@ -28,7 +28,10 @@ use Rattle.goals.specs.Goals.{reservedBy, GoalFits}
 use Rattle.goals.proofs.Ending.{none-reserved}
 use Rattle.goals.specs.declared.Goal.{Goal}
 use Rattle.visits.specs.Engine.{boundOf, commandNumber, Asked}
-use Rattle.questions.specs.Refusals.{singleOperations, sizeRefusal}
+use Rattle.layout.proofs.OrElse.{either, or-first, or-second}
+use Rattle.questions.specs.Refusals.{singleOperations, startRefusal, sizeRefusal}
+use Rattle.questions.specs.Rounded.{BasisOf}
+use Rattle.questions.specs.declared.Basis.{Basis}
 
 -- ---- commands of one operation, by their numbers
 abbrev pub oneOperation : Policy → ℕ → Bool
@@ -56,26 +59,42 @@ pub single-next : (p : Policy) (n i : ℕ) (whole : Bool) (c : Command) → c �
 single-next p n i whole c e h l = all-true (oneOperation p) n whole i (lt-ltb (getD (p .command) i missing .operations) 2 (rw e at h)) l
 
 -- ---- what the code tests, one after the other
-module _ (p : Policy) (n : ℕ) (b : Bool) (e : b ≡ singleOperations (systemOf p .commands)) where
+module _ (p : Policy) (b : Bool) (e : b ≡ singleOperations (systemOf p .commands)) where
   abbrev answer : ℕ
-  answer = sizeRefusal (systemOf p) (stateOf (p .matrix)) n
+  answer = startRefusal (systemOf p) (stateOf (p .matrix))
 
-  pub size-22 : not b ≡ true → 22 ≡ answer
-  size-22 f = rw (← e, f)
+  pub start-22 : not b ≡ true → 22 ≡ answer
+  start-22 f = rw (← e, f)
 
   module _ (f : not b ≡ false) (k : ℕ) (d : k ≡ namesOf (view (p .matrix .kinds) [])) where
-    pub size-23 : 30 < k → 23 ≡ answer
-    size-23 h = let z : ltb 30 (namesOf (stateOf (p .matrix))) ≡ true = lt-ltb 30 (namesOf (stateOf (p .matrix))) (rw d at h) in rw (← e, f, z)
+    pub start-23 : 30 < k → 23 ≡ answer
+    start-23 h = let z : ltb 30 (namesOf (stateOf (p .matrix))) ≡ true = lt-ltb 30 (namesOf (stateOf (p .matrix))) (rw d at h) in rw (← e, f, z)
 
-    module _ (h : k ≤ 30) (m : ℕ) (q : m ≡ boundOf p) where
-      few : ltb 30 (namesOf (stateOf (p .matrix))) ≡ false
-      few = le-ltb 30 (namesOf (stateOf (p .matrix))) (rw d at h)
+    pub start-none : k ≤ 30 → 0 ≡ answer
+    start-none h = let z : ltb 30 (namesOf (stateOf (p .matrix))) ≡ false = le-ltb 30 (namesOf (stateOf (p .matrix))) (rw d at h) in rw (← e, f, z)
 
-      pub size-24 : n < 5 * m → 24 ≡ answer
-      size-24 o = let z : ltb n (5 * boundOf p) ≡ true = lt-ltb n (5 * boundOf p) (rw q at o) in rw (← e, f, few, z)
+module _ (p : Policy) (x : Basis) (B : BasisOf p x) (n : ℕ) where
+  abbrev size : ℕ
+  size = sizeRefusal (systemOf p) (stateOf (p .matrix)) n
 
-      pub size-none : 5 * m ≤ n → 0 ≡ answer
-      size-none o = let z : ltb n (5 * boundOf p) ≡ false = le-ltb n (5 * boundOf p) (rw q at o) in rw (← e, f, few, z)
+  abbrev short : ℕ
+  short = pick (ltb n (5 * boundOf p)) 24 0
+
+  pub size-start : (x .refused ≡ 0 → ⊥) → x .refused ≡ size
+  size-start ne = B .refused-is ∙ sym (or-first (startRefusal (systemOf p) (stateOf (p .matrix))) short (λ q. ne (B .refused-is ∙ q)))
+
+  module _ (z : x .refused ≡ 0) where
+    size-rest : size ≡ short
+    size-rest = or-second (startRefusal (systemOf p) (stateOf (p .matrix))) short (sym (B .refused-is) ∙ z)
+
+    pub size-24 : n < 5 * x .bound → 24 ≡ size
+    size-24 h = let w : ltb n (5 * boundOf p) ≡ true = lt-ltb n (5 * boundOf p) (rw (B .bound-is) at h) in ap (λ (b : Bool). pick b 24 0) (sym w) ∙ sym size-rest
+
+    pub size-none : 5 * x .bound ≤ n → 0 ≡ size
+    size-none h = let w : ltb n (5 * boundOf p) ≡ false = le-ltb n (5 * boundOf p) (rw (B .bound-is) at h) in ap (λ (b : Bool). pick b 24 0) (sym w) ∙ sym size-rest
+
+pub basis-fits : (x : Basis) → ((p : Policy) × BasisOf p x) → 5 * x .bound < 18446744073709551616
+basis-fits x B = omega (arith, B .1 .bound-few)
 
 -- ---- a question that is not refused
 not-less : (a b : ℕ) → ltb a b ≡ false → b ≤ a
@@ -91,17 +110,19 @@ pub record Sized (S : System) (m : State) (n : ℕ) : Type 0 where
   pub room : 5 * stepBound (S .rights) m ≤ n
 
 pub sized : (S : System) (m : State) (n : ℕ) → sizeRefusal S m n ≡ 0 → Sized S m n
-sized S m n e = go (singleOperations (S .commands)) (ltb startNames (namesOf m)) (ltb n (5 * stepBound (S .rights) m)) refl refl refl e
+sized S m n e =
+    let w = either (startRefusal S m) (pick (ltb n (5 * stepBound (S .rights) m)) 24 0) e in
+    go (singleOperations (S .commands)) (ltb startNames (namesOf m)) (ltb n (5 * stepBound (S .rights) m)) refl refl refl (w .0) (w .1)
   where
     nonzero : (k : ℕ) → suc k ≡ 0 → ⊥
     nonzero k q = omega arith
 
     go : (b c d : Bool) → singleOperations (S .commands) ≡ b → ltb startNames (namesOf m) ≡ c → ltb n (5 * stepBound (S .rights) m) ≡ d
-        → _≡_ {A = ℕ} (pick (not b) 22 (pick c 23 (pick d 24 0))) 0 → Sized S m n
-    go false c d eb ec ed q = absurd (nonzero 21 q)
-    go true true d eb ec ed q = absurd (nonzero 22 q)
-    go true false true eb ec ed q = absurd (nonzero 23 q)
-    go true false false eb ec ed q = record { single = eb; few-names = not-less startNames (namesOf m) ec; room = not-less n (5 * stepBound (S .rights) m) ed }
+        → _≡_ {A = ℕ} (pick (not b) 22 (pick c 23 0)) 0 → _≡_ {A = ℕ} (pick d 24 0) 0 → Sized S m n
+    go false c d eb ec ed q w = absurd (nonzero 21 q)
+    go true true d eb ec ed q w = absurd (nonzero 22 q)
+    go true false true eb ec ed q w = absurd (nonzero 23 w)
+    go true false false eb ec ed q w = record { single = eb; few-names = not-less startNames (namesOf m) ec; room = not-less n (5 * stepBound (S .rights) m) ed }
 
 -- the engine's question is asked where nothing is refused, of commands of one operation, few names that are taken, and room for the steps
 pub goal-asked : (p : Policy) (G : Goal) (n : ℕ) → singleOperations (systemOf p .commands) ≡ true → takenNames (reservedBy G) (stateOf (p .matrix)) ≤ startNames → 5 * boundOf p ≤ n → PolicyFits p → GoalFits G → Asked p G n

@@ -9,16 +9,20 @@ use Rattle.protection.specs.Limits.{startNames}
 use Rattle.protection.specs.State.{State}
 use Rattle.protection.specs.Size.{namesOf, stepBound}
 use Rattle.protection.specs.Command.{Command, System}
+use Rattle.layout.specs.Refusals.{orElse}
 
 -- not 22, "a rule with more than one step"
 abbrev pub singleOperations : List Command → Bool
 singleOperations [] = true
 singleOperations (C ∷ Cs) = ltb (length (C .operations)) 2 && singleOperations Cs
 
--- "in this order: 22 a rule with more than one step; 23 more than 30 names exist; 24 buffer shorter than 5 × .." n is the buffer's length; 0 is no refusal
-abbrev pub sizeRefusal : System → State → ℕ → ℕ
-sizeRefusal S m n =
+-- "in this order: 22 a rule with more than one step; 23 more than 30 names exist"; 0 is no refusal
+abbrev pub startRefusal : System → State → ℕ
+startRefusal S m =
     pick (not (singleOperations (S .commands))) 22
     (pick (ltb startNames (namesOf m)) 23
-    (pick (ltb n (5 * stepBound (S .rights) m)) 24
-    0))
+    0)
+
+-- "24 buffer shorter than 5 × .." n is the buffer's length
+abbrev pub sizeRefusal : System → State → ℕ → ℕ
+sizeRefusal S m n = orElse (startRefusal S m) (pick (ltb n (5 * stepBound (S .rights) m)) 24 0)

@@ -42,7 +42,13 @@ use Rattle.visits.proofs.Asked.{taken}
 use Rattle.questions.proofs.Refusals.{sized}
 use Rattle.safety.specs.Demand3.{stepsWritten, isSafe, isUnsafe, Demand3}
 use Rattle.safety.specs.Judgement.{callerRefusal, judgeRefusal, fileVerdict, judgementOf, fileJudgement, bytesOf, filled, fileBuffer, FileDemand3, Judged}
-use Rattle.safety.specs.Conclusion.{Concluded}
+use Rattle.policy.specs.Fits.{PolicyFits}
+use Rattle.masks.specs.Told.{Told}
+use Rattle.masks.specs.declared.Tables.{Tables}
+use Rattle.questions.specs.Rounded.{BasisOf}
+use Rattle.questions.specs.declared.Basis.{Basis}
+use Rattle.safety.specs.Conclusion.{Concluded, PreparedOf}
+use Rattle.safety.specs.declared.Prepared.{Prepared}
 use Rattle.safety.specs.declared.Judgement.{Judgement}
 use Rattle.safety.specs.declared.Judgement.the-variants.{Refused, Safe, Unsafe}
 use Rattle.safety.proofs.Buffers.{bytes-length, front-bytes, calls-back, rest-behind}
@@ -193,3 +199,36 @@ module _ (f : List ℕ) (r : ℕ) (b : List ℕ) where
         file-judged answer b' C =
             let q : judgeRefusal f r (length b) ≡ 0 = refusal-is k e ∙ n in
             judged f r b answer b' (C .answer-is ∙ ap judgementOf verdict-is ∙ sym (judges f r (length b) q)) (C .buffer-is ∙ ap (λ (w : Verdict). filled (w .steps) b) verdict-is ∙ sym (fills f r b q))
+
+-- ---- a file that is prepared
+pub prepared-is : (x : PolicyRead) (B : Basis) (t : Tables) → (x .refused ≡ 0 → BasisOf (x .policy) B) → Told (x .policy .matrix .cells) t → (f : List ℕ) → x ≡ policyRead f
+    → PreparedOf f (record { read = x; basis = B; tables = t })
+prepared-is x B t h k f d = record { read-is = d; basis-is = h; told = k }
+
+pub basis-fits : (x : PolicyRead) → ((f : List ℕ) × (x ≡ policyRead f)) → x .refused ≡ 0 → PolicyFits (x .policy)
+basis-fits x d z = policy-fits-read (d .0) x (d .1) z
+
+module _ (f : List ℕ) (r : ℕ) (b : List ℕ) (y : Prepared) (P : PreparedOf f y) where
+  pub prepared-refused : (y .read .refused ≡ 0 → ⊥) → Judged f r b (Refused (y .read .refused)) b
+  prepared-refused = file-refused f r b (y .read) (P .read-is)
+
+  module _ (z : y .read .refused ≡ 0) (k : ℕ) (e : k ≡ callerRefusal (systemOf (y .read .policy)) (stateOf (y .read .policy .matrix)) r (length b)) where
+    pub prepared-caller : (k ≡ 0 → ⊥) → Judged f r b (Refused k) b
+    prepared-caller = caller-refused f r b (y .read) (P .read-is) z k e
+
+    module _ (n : k ≡ 0) where
+      pub prepared-asked : Asked (y .read .policy) (leakGoal 0 r) (length b)
+      prepared-asked = file-asked f r b (y .read) (P .read-is) z k e n
+
+      pub prepared-below : r < y .read .policy .rights
+      prepared-below = file-below f r b (y .read) (P .read-is) z k e n
+
+      pub prepared-judged : (answer : Judgement) (b' : List ℕ) → Concluded (y .read .policy) 0 r b answer b' → Judged f r b answer b'
+      prepared-judged = file-judged f r b (y .read) (P .read-is) z k e n
+
+-- for some file, as a function asks
+pub prepared-basis : (y : Prepared) → ((f : List ℕ) × PreparedOf f y) → y .read .refused ≡ 0 → BasisOf (y .read .policy) (y .basis)
+prepared-basis y P z = P .1 .basis-is z
+
+pub prepared-told : (y : Prepared) → ((f : List ℕ) × PreparedOf f y) → Told (y .read .policy .matrix .cells) (y .tables)
+prepared-told y P = P .1 .told

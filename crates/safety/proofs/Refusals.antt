@@ -20,6 +20,8 @@ use Rattle.policy.specs.declared.Policy.{Policy}
 use Rattle.goals.specs.Goals.{leakGoal, GoalFits}
 use Rattle.visits.specs.Engine.{Asked}
 use Rattle.questions.specs.Refusals.{sizeRefusal}
+use Rattle.questions.specs.Rounded.{BasisOf}
+use Rattle.questions.specs.declared.Basis.{Basis}
 use Rattle.questions.proofs.Refusals.{Sized, sized, open-asked}
 use Rattle.protection.specs.Judge.{Verdict}
 use Rattle.safety.specs.Judgement.{callerRefusal, judgeRefusal, fileVerdict, judgementOf, judgementBy, fileJudgement, filled, bufferBy, fileBuffer}
@@ -37,6 +39,10 @@ module _ (p : Policy) (r n : ℕ) where
   pub caller-size : r < p .rights → (k : ℕ) → k ≡ sizeRefusal (systemOf p) (stateOf (p .matrix)) n → k ≡ answer
   unfolding callerRefusal
   caller-size l k e = e ∙ rw (lt-leb (p .rights) r l)
+
+  -- by what is known of the policy alone
+  pub caller-basis : (x : Basis) → BasisOf p x → r < p .rights → (k : ℕ) → ((q : Policy) → BasisOf q x → k ≡ sizeRefusal (systemOf q) (stateOf (q .matrix)) n) → k ≡ answer
+  caller-basis x B l k h = caller-size l k (h p B)
 
 -- ---- a question that is not refused
 not-within : (a b : ℕ) → leb a b ≡ false → b < a

@@ -13,8 +13,9 @@ use reference::random::Random;
 use reference::replay::{replay, LEAK};
 use reference::report::{hex, Arguments, Group, Report};
 use reference::rounds::most_steps;
+use reference::sheet::{sheet, ENTRY};
 use reference::trusted::office;
-use reference::verdict::Question;
+use reference::verdict::{needed, Question};
 use reference::{lists, second, stored, table};
 
 /// A draft with these kinds and these rights in cells.
@@ -453,6 +454,43 @@ fn main() {
             });
         },
     );
+
+    report.group("reference and second sheet agree", 600, |group| {
+        let mut seen = [0; 4];
+        while group.inputs < 600 {
+            let file = small(random).file();
+            let rights = file[0];
+            // Up to 10 entries, and bytes that make none.
+            let length = random.below(44);
+            let mut one = random.bytes(length);
+            for right in one.iter_mut().step_by(ENTRY) {
+                *right %= rights + 1;
+            }
+            let count = one.len() / ENTRY;
+            // A part may be a byte short.
+            let length = (count * needed(&file)).saturating_sub(random.below(2));
+            let length = length + random.below(count.max(1));
+            let mut other = one.clone();
+            let mut buffer = random.bytes(length);
+            let mut second_buffer = buffer.clone();
+            let code = sheet(&file, &mut one, &mut buffer);
+            let answer = second::sheet(&file, &mut other, &mut second_buffer);
+            group.input(
+                code == answer && one == other && buffer == second_buffer,
+                || format!("{code} and {answer}, {one:?} and {other:?}, {}", hex(&file)),
+            );
+            let has = |code: u8| one.chunks_exact(ENTRY).any(|entry| entry[1] == code);
+            seen[match code {
+                43 => 0,
+                _ if has(24) => 1,
+                _ if has(21) && has(UNSAFE) => 2,
+                _ => 3,
+            }] += 1;
+        }
+        group.demand(seen.iter().all(|&count| count >= 50), || {
+            format!("43, 24, 21 beside unsafe, others: {seen:?}")
+        });
+    });
 
     report.finish();
 }

@@ -17,7 +17,7 @@ enum Promise {
 }
 
 /// The rows of the table, with their demands.
-const ROWS: [(&str, &str, Promise); 10] = [
+const ROWS: [(&str, &str, Promise); 11] = [
     (
         "1",
         "`access_check`",
@@ -52,6 +52,11 @@ const ROWS: [(&str, &str, Promise); 10] = [
         "1, 3",
         "`access_judge_part`",
         Promise::Contract("exports/src/lib.rt", "access_judge_part"),
+    ),
+    (
+        "1, 3",
+        "`access_sheet`",
+        Promise::Contract("exports/src/lib.rt", "access_sheet"),
     ),
     (
         "1",

@@ -27,6 +27,8 @@ mod part;
 mod replay;
 #[path = "../boundary/run.rs"]
 mod run;
+#[path = "../boundary/sheet.rs"]
+mod sheet;
 
 fn page(name: &str) -> String {
     fs::read_to_string(Path::new("..").join(name)).unwrap_or_default()
@@ -134,7 +136,7 @@ fn refusals_page(group: &mut Group) {
     let wanted: Vec<String> = (1..=9)
         .chain(11..=15)
         .chain(21..=24)
-        .chain([31, 41, 42])
+        .chain([31, 41, 42, 43])
         .map(|number: u8| number.to_string())
         .collect();
     group.demand(numbers == wanted, || format!("the numbers are {numbers:?}"));
@@ -256,9 +258,10 @@ fn defined(name: &str) -> usize {
 
 /// No call uses more stack than the header says, nor less than a fourth of it.
 fn stack(group: &mut Group, random: &mut Random) {
-    let mut most = [0; 6];
+    let mut most = [0; 7];
     let mut seen = |call: usize, bytes: usize| most[call] = bytes.max(most[call]);
     let mut buffer = vec![0; defined("TUGCAPHI_BUFFER")];
+    let mut sheets = vec![0; 8 * buffer.len()];
     for turn in 0..60 {
         let draft = match turn % 4 {
             0 => large(random).0,
@@ -294,11 +297,19 @@ fn stack(group: &mut Group, random: &mut Random) {
             let list = [draft.rights - 1, subject, name].repeat(cells);
             seen(4, used(|| _ = need::need(&file, &list, &mut buffer)));
         }
+        for count in [0, 1, 8] {
+            let entry = |_| [random.below(usize::from(draft.rights)) as u8, 0, 0, 0];
+            let mut entries: Vec<u8> = (0..count).flat_map(entry).collect();
+            seen(
+                6,
+                used(|| _ = sheet::sheet(&file, &mut entries, &mut sheets)),
+            );
+        }
         group.inputs += 1;
     }
     println!(
-        "  check {}, run {}, replay {}, judge {}, need {}, part {} bytes",
-        most[0], most[1], most[2], most[3], most[4], most[5]
+        "  check {}, run {}, replay {}, judge {}, need {}, part {}, sheet {} bytes",
+        most[0], most[1], most[2], most[3], most[4], most[5], most[6]
     );
     let said = defined("TUGCAPHI_STACK");
     let highest = most.into_iter().max().unwrap_or_default();
@@ -321,6 +332,36 @@ fn buffer_length(group: &mut Group) {
         group.input(code == wanted, || format!("need, {length} bytes: {code}"));
         let code = part::judge_part(&file, 0, &[0], &mut vec![0; length]).0;
         group.input(code == wanted, || format!("part, {length} bytes: {code}"));
+        // A sheet needs as much for each entry.
+        let mut entries = [9; 12];
+        for right in entries.iter_mut().step_by(4) {
+            *right = 0;
+        }
+        sheet::sheet(&file, &mut entries, &mut vec![0; 3 * length + 2]);
+        let codes = [entries[1], entries[5], entries[9]];
+        group.input(codes == [wanted; 3], || {
+            format!("sheet, {length} bytes each: {codes:?}")
+        });
+    }
+}
+
+/// A sheet of as many entries as the header says is taken, with bytes behind them
+/// too; one more entry is not.
+fn sheet_length(group: &mut Group) {
+    let mut draft = Draft::empty(1);
+    draft.kinds[0] = 2;
+    let file = draft.file();
+    let (entry, entries) = (defined("TUGCAPHI_ENTRY"), defined("TUGCAPHI_ENTRIES"));
+    let most = entry * entries;
+    let mut buffer = vec![0; entries * defined("TUGCAPHI_BUFFER")];
+    for (length, wanted) in [(most, 0), (most + entry - 1, 0), (most + entry, 43)] {
+        let mut sheet = vec![0; length];
+        // The code of the last entry that is taken, to see that it is answered.
+        let last = most - entry + 1;
+        sheet[last] = 7;
+        let code = sheet::sheet(&file, &mut sheet, &mut buffer);
+        let kept = sheet[last] == if wanted == 0 { 0 } else { 7 };
+        group.input(code == wanted && kept, || format!("{length} bytes: {code}"));
     }
 }
 
@@ -389,10 +430,11 @@ fn main() {
     let mut random = Random::new(arguments.seed);
     let mut report = Report::default();
     report.group("docs/FORMAT.md: the worked example", 7, format_page);
-    report.group("docs/REFUSALS.md: the program's words", 20, refusals_page);
+    report.group("docs/REFUSALS.md: the program's words", 22, refusals_page);
     report.group("include/tugcaphi.h and its example", 3, header);
-    report.group("include/tugcaphi.h: the buffer", 6, buffer_length);
+    report.group("include/tugcaphi.h: the buffer", 8, buffer_length);
     report.group("include/tugcaphi.h: the list of cells", 4, list_length);
+    report.group("include/tugcaphi.h: the sheet", 3, sheet_length);
     report.group("install", 4, install);
     report.group("README.md: the crates of a build", 1, crates_of_a_build);
     report.group("links of the pages", 20, links);

@@ -12,7 +12,7 @@ held-requires : tie.Need-held-requires
 held-requires c κs = search needs
 
 all-rounds-requires : tie.Need-all-rounds-requires
-all-rounds-requires c κs = (need-asked _ (now (c .before .before .before .before .before .before .before .before .before .before .before .before .before .before .before .args .list)) _ _ (c .before .before .before .before .before .held .ensures) (c .before .before .before .before .before .before .before .before .before .before .before .before .before .before .before .pre .0), copied-start _ _ (c .before .before .before .before .before .before .before .before .build .ensures))
+all-rounds-requires c κs = (need-asked _ (now (c .before .before .before .before .before .before .before .before .before .before .before .before .before .before .before .args .list)) _ _ (c .before .before .before .before .before .held .ensures) (c .before .before .before .before .before .before .before .before .before .before .before .before .before .before .before .pre .0), copied-start _ _ (c .before .before .before .before .before .before .before .before .build .ensures), c .before .before .before .before .before .before .before .before .before .before .before .before .before .before .before .pre .2)
 
 same-length : tie.Need-same-length
 same-length c = search needs

@@ -24,7 +24,8 @@ const STATUSES: [(&str, &[i32]); 8] = [
     ("replay", &[0, 1, 2, 3]),
 ];
 
-/// The judge's buffer is always long enough, so no 24.
+/// The judge's buffer is always long enough, and a sheet never too long: no 24
+/// and no 43.
 const REFUSALS: [u8; 19] = [
     1, 2, 3, 4, 5, 6, 7, 8, 9, 11, 12, 14, 15, 21, 22, 23, 31, 41, 42,
 ];

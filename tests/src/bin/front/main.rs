@@ -1,7 +1,7 @@
 //! The front program `tugcaphi`: transcripts of every command, exit status and
 //! mistake in a table, random tables there and back, damaged texts, the places of refusals,
 //! steps in words against a replay, what a press needs in words, pictures, pages and answers for programs,
-//! the same without trusted names,
+//! the same without trusted names, several rights as one by one,
 //! and the examples in the docs. Arguments: the seed, the number of random
 //! tables. The executable is `../target/cli/release/tugcaphi`, or TUGCAPHI names
 //! it. With FRONT_BLESS set the transcripts are written anew; read the difference.
@@ -21,6 +21,7 @@ mod places;
 mod reading;
 mod schema;
 mod sentences;
+mod sheets;
 mod stories;
 mod tables;
 mod terminals;
@@ -50,6 +51,7 @@ fn main() {
     needs::run(&mut report, seed);
     pages::run(&mut report, seed);
     parts::run(&mut report, seed);
+    sheets::run(&mut report, seed);
     terminals::run(&mut report);
     report.finish();
 }

@@ -108,8 +108,8 @@ pub fn judged(text: &[u8], without: &[u8]) -> (Content, Vec<Verdict>) {
         house: table.house,
         words: table.words,
     };
-    let verdicts = (0..file[0]).map(|right| judge(&file, &content.house, right, without));
-    let verdicts = verdicts.collect::<Result<_, _>>();
+    let rights: Vec<u8> = (0..file[0]).collect();
+    let verdicts = judge(&file, &content.house, &rights, without);
     (content, verdicts.expect("steps that can be done"))
 }
 

@@ -138,11 +138,9 @@ pub fn contents(file: &[u8], wording: &Wording, without: &[u8]) -> (Content, Vec
         house: tugcaphi::house::decode::decode(file),
         words: words_of(wording),
     };
-    let verdicts = (0..file[0]).map(|right| judge(file, &content.house, right, without));
-    let verdicts = verdicts
-        .collect::<Result<_, _>>()
-        .expect("steps that can be done");
-    (content, verdicts)
+    let rights: Vec<u8> = (0..file[0]).collect();
+    let verdicts = judge(file, &content.house, &rights, without);
+    (content, verdicts.expect("steps that can be done"))
 }
 
 /// Holds every printed verdict, and which names were left out, to the file. Gives
