@@ -21,7 +21,8 @@ use Rattle.protection.proofs.Needed.{need-held, need-never, need-bound}
 use Rattle.matrix.specs.Matrices.{stateOf}
 use Rattle.matrix.proofs.Inverse.{view-proper}
 use Rattle.layout.specs.Refusals.{orElse}
-use Rattle.layout.proofs.OrElse.{either, or-first, or-second}
+use Rattle.layout.proofs.Accepted.{or-else}
+use Rattle.layout.proofs.OrElse.{or-first, or-second}
 use Rattle.policy.specs.Refusals.{refusal}
 use Rattle.policy.specs.Contents.{systemOf, policyOf, policyRead, fileState, fileSystem}
 use Rattle.policy.specs.Fits.{PolicyFits}
@@ -82,8 +83,8 @@ pub record Passed (f l : List ℕ) (n : ℕ) : Type 0 where
 passed : (f l : List ℕ) (n : ℕ) → needRefusal f l n ≡ 0 → Passed f l n
 unfolding needRefusal
 passed f l n e =
-    let a = either (refusal f) (orElse (sizeRefusal (fileSystem f) (fileState f) n) (listRefusal (fileSystem f) (fileState f) l)) e in
-    let b = either (sizeRefusal (fileSystem f) (fileState f) n) (listRefusal (fileSystem f) (fileState f) l) (a .1) in
+    let a = or-else (refusal f) (orElse (sizeRefusal (fileSystem f) (fileState f) n) (listRefusal (fileSystem f) (fileState f) l)) e in
+    let b = or-else (sizeRefusal (fileSystem f) (fileState f) n) (listRefusal (fileSystem f) (fileState f) l) (a .1) in
     record { file = a .0; size = b .0; list = b .1 }
 
 -- the policy's question is asked

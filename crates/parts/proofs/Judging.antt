@@ -26,7 +26,8 @@ use Rattle.matrix.specs.Bytes.{view}
 use Rattle.matrix.specs.Matrices.{stateOf}
 use Rattle.matrix.proofs.Inverse.{view-proper}
 use Rattle.layout.specs.Refusals.{orElse}
-use Rattle.layout.proofs.OrElse.{either, or-first, or-second}
+use Rattle.layout.proofs.Accepted.{or-else}
+use Rattle.layout.proofs.OrElse.{or-first, or-second}
 use Rattle.policy.specs.Contents.{systemOf, policyOf, policyRead, fileState, fileSystem}
 use Rattle.policy.specs.Fits.{PolicyFits}
 use Rattle.policy.specs.declared.Policy.{Policy}
@@ -75,7 +76,7 @@ module _ (f : List ℕ) (r : ℕ) (l b : List ℕ) where
 
     neither : (judgeRefusal f r (length b) ≡ 0) × (trustedRefusal (fileState f) l ≡ 0)
     unfolding partRefusal
-    neither = either (judgeRefusal f r (length b)) (trustedRefusal (fileState f) l) e
+    neither = or-else (judgeRefusal f r (length b)) (trustedRefusal (fileState f) l) e
 
     whole-taken : Taken (fileSystem f) noneReserved (fileState f)
     whole-taken = file-taken f r b (neither .0)

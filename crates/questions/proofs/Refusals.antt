@@ -28,7 +28,8 @@ use Rattle.goals.specs.Goals.{reservedBy, GoalFits}
 use Rattle.goals.proofs.Ending.{none-reserved}
 use Rattle.goals.specs.declared.Goal.{Goal}
 use Rattle.visits.specs.Engine.{boundOf, commandNumber, Asked}
-use Rattle.layout.proofs.OrElse.{either, or-first, or-second}
+use Rattle.layout.proofs.Accepted.{or-else}
+use Rattle.layout.proofs.OrElse.{or-first, or-second}
 use Rattle.questions.specs.Refusals.{singleOperations, startRefusal, sizeRefusal}
 use Rattle.questions.specs.Rounded.{BasisOf}
 use Rattle.questions.specs.declared.Basis.{Basis}
@@ -111,7 +112,7 @@ pub record Sized (S : System) (m : State) (n : ℕ) : Type 0 where
 
 pub sized : (S : System) (m : State) (n : ℕ) → sizeRefusal S m n ≡ 0 → Sized S m n
 sized S m n e =
-    let w = either (startRefusal S m) (pick (ltb n (5 * stepBound (S .rights) m)) 24 0) e in
+    let w = or-else (startRefusal S m) (pick (ltb n (5 * stepBound (S .rights) m)) 24 0) e in
     go (singleOperations (S .commands)) (ltb startNames (namesOf m)) (ltb n (5 * stepBound (S .rights) m)) refl refl refl (w .0) (w .1)
   where
     nonzero : (k : ℕ) → suc k ≡ 0 → ⊥

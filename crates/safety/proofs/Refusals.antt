@@ -12,7 +12,7 @@ use Rattle.cases.specs.Cases.{pick}
 use Rattle.protection.specs.State.{State}
 use Rattle.protection.specs.Command.{System}
 use Rattle.matrix.specs.Matrices.{stateOf}
-use Rattle.layout.proofs.OrElse.{either}
+use Rattle.layout.proofs.Accepted.{or-else}
 use Rattle.policy.specs.Refusals.{refusal}
 use Rattle.policy.specs.Contents.{systemOf, fileState, fileSystem}
 use Rattle.policy.specs.Fits.{PolicyFits}
@@ -70,7 +70,7 @@ passed S m r n e = go (leb (S .rights) r) refl e
 -- where the judge refuses nothing, neither whoever wrote the file nor whoever calls is refused
 pub none-refused : (f : List ℕ) (r n : ℕ) → judgeRefusal f r n ≡ 0 → (refusal f ≡ 0) × (callerRefusal (fileSystem f) (fileState f) r n ≡ 0)
 unfolding judgeRefusal
-none-refused f r n e = either (refusal f) (callerRefusal (fileSystem f) (fileState f) r n) e
+none-refused f r n e = or-else (refusal f) (callerRefusal (fileSystem f) (fileState f) r n) e
 
 -- ---- the answer, and the buffer after it, by the refusal k
 module _ (k : ℕ) (v : Verdict) where
