@@ -12,27 +12,29 @@
  *   run: cell (0, 2) held 1, and holds 3
  *   run with names 1 0 2: refused 14
  *
- * The table is that of docs/FORMAT.md: two rights; Ada (0) and Ben (1) are subjects, and the shade (2) is an object on which Ada
- * has right 0; by rule 0 (a, b, c), who has right 0 on c may enter right 1 into any b's cell of c.
+ * The table is that of docs/FORMAT.md: two rights, of which right 0 carries right 1; Ada (0) and Ben (1) are subjects, and the
+ * shade (2) is an object on which Ada has right 0; by rule 0 (a, b, c), who has right 1 on c, or a right that carries it, may enter
+ * right 1 into any b's cell of c.
  */
 #include "tugcaphi.h"
 
 #include <stdio.h>
 #include <string.h>
 
-enum { KINDS = 14, CELLS = KINDS + 32, RULE = CELLS + 1024, LENGTH = RULE + 10 };
+enum { KINDS = 18, CELLS = KINDS + 32, CARRIES = CELLS + 1024, RULE = CARRIES + 2, LENGTH = RULE + 10 };
 
 static void table(uint8_t file[LENGTH])
 {
     static const uint8_t head[KINDS] = {
-        2, 3,                             /* rights, pairs */
+        2, 4,                             /* rights, pairs */
         KINDS, 0, 32, 0,                  /* kinds: where, how long; low byte first */
         CELLS, 0, 0, 4,                   /* cells */
+        CARRIES & 255, CARRIES >> 8, 2, 0, /* carries */
         RULE & 255, RULE >> 8, 10, 0,     /* rule 0 */
     };
     static const uint8_t rule[10] = {
         3, 1, 1,                          /* blanks, conditions, steps */
-        0, 0, 2,                          /* right 0 in (a, c) */
+        1, 0, 2,                          /* right 1 in (a, c) */
         1, 1, 1, 2,                       /* enter right 1 into (b, c) */
     };
     memset(file, 0, LENGTH);
@@ -41,6 +43,7 @@ static void table(uint8_t file[LENGTH])
     file[KINDS + 1] = 2;
     file[KINDS + 2] = 1;
     file[CELLS + 32 * 0 + 2] = 1 << 0;
+    file[CARRIES + 0] = 1 << 1;
     memcpy(file + RULE, rule, sizeof rule);
 }
 
@@ -91,7 +94,7 @@ int main(void)
     if (access_run(file, LENGTH, steps[0], steps[1], steps[2], steps[3], steps[4]) == TUGCAPHI_DONE)
         printf("run: cell (0, 2) held %d, and holds %d\n", before, *cell);
 
-    /* Ben does not have right 0. */
+    /* Ben has neither right 1 nor right 0, which carries it. */
     printf("run with names 1 0 2: refused %d\n", access_run(file, LENGTH, 0, 1, 0, 2, 255));
     return 0;
 }

@@ -15,9 +15,11 @@
  *
  * - It ends, whatever it is given, and reads and writes nothing but what it is lent.
  * - Any bytes are taken as a file, a trace, a list of cells or of names, a sheet or a buffer, and any number as a rule, a name or
- *   a right. What is wrong with them is the answer: a number of docs/REFUSALS.md, 1 to 9 for the file, 11, 12, 14, 15 and 31 for
- *   a rule run or a trace, 21 to 24 for a question to the judge, 41 for a list of cells, 42 for one of names, 43 for a sheet. The
- *   first one that applies is given, in the order of that page.
+ *   a right. What is wrong with them is the answer: a number of docs/REFUSALS.md, 1 to 9 and 44 for the file, 11, 12, 14, 15 and
+ *   31 for a rule run or a trace, 21 to 24 for a question to the judge, 41 for a list of cells, 42 for one of names, 43 for a sheet.
+ *   The first one that applies is given, in the order of that page.
+ * - A condition of a rule holds by its own right and by every right in the cell that carries it. What is entered, deleted, leaks or
+ *   is asked for is the right itself.
  * - Refused, it changes no byte of a file, a sheet or a buffer.
  *
  * What the caller must see to; no call can test it
@@ -72,18 +74,18 @@ extern "C" {
 #define TUGCAPHI_BUFFER 39700
 
 /*
- * Bytes of stack that are enough for each call. This is measured and not proved: access_check used about 6,000 bytes, access_run
- * 8,200, access_replay 7,200, access_judge 28,300, access_judge_part 30,400, access_sheet 30,700, access_need 17,200. Each ran in
+ * Bytes of stack that are enough for each call. This is measured and not proved: access_check used about 6,100 bytes, access_run
+ * 8,300, access_replay 7,200, access_judge 41,800, access_judge_part 41,600, access_sheet 45,900, access_need 22,300. Each ran in
  * a thread whose stack of 1 MiB was painted with a pattern before, and what had lost its paint afterwards was counted, less what
- * an idle thread uses; on 60 generated files from each of nine seeds, for all rights, access_judge_part with none, some and all of
+ * an idle thread uses; on 60 generated files, for all rights, access_judge_part with none, some and all of
  * the names listed, access_sheet with 0, 1 and 8 entries, access_need with lists of 0, 1 and 8 cells. The files made no
  * difference: the calls hold arrays of fixed size alone, and recur at most once for each blank of a rule. The tests measure it
  * again, and fail above this number.
  */
-#define TUGCAPHI_STACK 32768
+#define TUGCAPHI_STACK 65536
 
 /*
- * Whether a file is accepted: 0, or the refusal of whoever wrote it, 1 to 9.
+ * Whether a file is accepted: 0, or the refusal of whoever wrote it, 1 to 9 or 44.
  */
 uint8_t access_check(const uint8_t *file, size_t length);
 
@@ -92,7 +94,7 @@ uint8_t access_check(const uint8_t *file, size_t length);
  * rule's blanks must hold 255.
  *
  * 0: all its steps were carried out, in the file, whose kinds and cells alone have changed; it is still accepted, with the
- * same rules. Else the refusal, 1 to 9, 11, 12, 14 or 15, and the file is as it was.
+ * same carries and rules. Else the refusal, 1 to 9, 44, 11, 12, 14 or 15, and the file is as it was.
  */
 uint8_t access_run(uint8_t *file, size_t length, uint8_t rule, uint8_t a0, uint8_t a1, uint8_t a2, uint8_t a3);
 
@@ -102,7 +104,7 @@ uint8_t access_run(uint8_t *file, size_t length, uint8_t rule, uint8_t a0, uint8
  *
  * 255: step number *step, from 0, is the first to leak, and none before it is refused. 0: all steps were carried out, and none
  * leaks; *step is 0. Else the refusal: 11, 12, 14 or 15 with the number of the refused step in *step, before which none leaks;
- * 1 to 9, 21 and 31 with 0.
+ * 1 to 9, 44, 21 and 31 with 0.
  */
 uint8_t access_replay(const uint8_t *file, size_t length, const uint8_t *trace, size_t trace_length, uint8_t right,
                       uint64_t *step);
@@ -113,7 +115,7 @@ uint8_t access_replay(const uint8_t *file, size_t length, const uint8_t *trace, 
  * 255, unsafe: the first 5 * *steps bytes of the buffer are a run that does, from the file as it is: no step of it is refused,
  * and it leaks at its last step and nowhere sooner. 0, safe: no run leaks; the first 5 * *steps bytes of the buffer are the
  * steps by which the judge found this out. Spare blanks have 0 in them. The rest of the buffer keeps its bytes. Else the refusal,
- * 1 to 9 or 21 to 24; *steps is 0.
+ * 1 to 9, 44 or 21 to 24; *steps is 0.
  */
 uint8_t access_judge(const uint8_t *file, size_t length, uint8_t right, uint8_t *buffer, size_t buffer_length,
                      uint64_t *steps);
@@ -126,8 +128,8 @@ uint8_t access_judge(const uint8_t *file, size_t length, uint8_t right, uint8_t 
  * 255, unsafe: the steps, written as access_judge writes them, are a run from the part that leaks at its last step and nowhere
  * sooner; from the whole file it does so too, and the whole is unsafe. 0, safe: no run from the part leaks. So none from the
  * whole does in which no listed name is given to a blank that a condition or a step names. A name that a step creates is absent
- * in the whole, and the buffer must be as long as the whole needs. Else the refusal, 1 to 9, 21 to 24, or 42 where a listed name
- * does not exist, is above 31 or is listed before; *steps is 0.
+ * in the whole, and the buffer must be as long as the whole needs. Else the refusal, 1 to 9, 44, 21 to 24, or 42 where a listed
+ * name does not exist, is above 31 or is listed before; *steps is 0.
  */
 uint8_t access_judge_part(const uint8_t *file, size_t length, uint8_t right, const uint8_t *trusted, size_t trusted_length,
                           uint8_t *buffer, size_t buffer_length, uint64_t *steps);
@@ -139,7 +141,7 @@ uint8_t access_judge_part(const uint8_t *file, size_t length, uint8_t right, con
  * rounded down, the first one from the front of the buffer on, each next one behind the one before.
  *
  * 0: each entry has the code and the number that access_judge would give for its right and its part of the buffer, and the part
- * is as that call would leave it. A refusal, 1 to 9 or 21 to 24, is an entry's code, too, with the number 0, and does not keep
+ * is as that call would leave it. A refusal, 1 to 9, 44 or 21 to 24, is an entry's code, too, with the number 0, and does not keep
  * the other entries from their answers; that of the file is the code of every entry. Bytes behind the last whole entry and behind
  * the last part stay, and an empty sheet changes nothing, whatever the file is. 43: there are more than 8 entries; the file was
  * not looked at, and no entry is answered.
@@ -155,7 +157,7 @@ uint8_t access_sheet(const uint8_t *file, size_t length, uint8_t *entries, size_
  * ends with all cells held, and no shorter front of it does; *steps is 0 if the file holds them all. 0, never: no run, however
  * long and with whatever new names, that destroys no name existing in the file ends with all of them held; the first 5 * *steps
  * bytes of the buffer are the steps by which this was found out. Spare blanks have 0 in them. The rest of the buffer keeps its
- * bytes. Else the refusal, 1 to 9, 22 to 24 or 41; *steps is 0.
+ * bytes. Else the refusal, 1 to 9, 44, 22 to 24 or 41; *steps is 0.
  */
 uint8_t access_need(const uint8_t *file, size_t length, const uint8_t *cells, size_t cells_length, uint8_t *buffer,
                     size_t buffer_length, uint64_t *steps);

@@ -65,6 +65,13 @@ const LARGE: Shape = Shape {
     named: 4,
 };
 
+const CARRIED: Shape = Shape {
+    names: 20,
+    subjects: 16,
+    rules: 24,
+    ..LARGE
+};
+
 const DENSE: Shape = Shape {
     density: 60,
     conditions: (2, 4),
@@ -135,8 +142,21 @@ fn by_chance(random: &mut Random, shape: &Shape) -> (Draft, u8) {
 
 /// The first table by chance whose answer is wanted.
 fn wanted(random: &mut Random, shape: &Shape, is_wanted: impl Fn(&Answer) -> bool) -> (Draft, u8) {
+    wanted_with(random, shape, &[], is_wanted)
+}
+
+/// The same with rights that carry others.
+fn wanted_with(
+    random: &mut Random,
+    shape: &Shape,
+    carries: &[(u8, u8)],
+    is_wanted: impl Fn(&Answer) -> bool,
+) -> (Draft, u8) {
     for _ in 0..200 {
-        let (draft, right) = by_chance(random, shape);
+        let (mut draft, right) = by_chance(random, shape);
+        for &(one, other) in carries {
+            draft.carry(one, other);
+        }
         let contents = file::read(&draft.file()).expect("accepted");
         if is_wanted(&pruned::judge(&Table::new(&contents), 1 << right)) {
             return (draft, right);
@@ -295,6 +315,80 @@ fn closing(names: usize, blanks: u8, leaks: bool) -> (Draft, u8) {
     (draft, 0)
 }
 
+/// The walk through all cells by links that are carried: right 3 stands in their
+/// cells, and carries the linking right through rights 4 and 5.
+fn carried_links(names: usize) -> (Draft, u8) {
+    let (mut draft, right) = grid(names, 3, true);
+    for cell in &mut draft.cells {
+        if *cell >> LINK & 1 == 1 {
+            *cell = *cell & !(1 << LINK) | 1 << 3;
+        }
+    }
+    for (one, other) in [(3, 4), (4, 5), (5, LINK)] {
+        draft.carry(one, other);
+    }
+    (draft, right)
+}
+
+/// The walk by tokens that are carried: what is tested is right 0, 2 or 4, and
+/// what is entered is the one above it, which carries it.
+fn carried_tokens(names: usize, leaks: bool) -> (Draft, u8) {
+    let mut draft = descending(names);
+    draft.put(names - 1, names - 1, 0);
+    for token in [4, 2, 0] {
+        let handed = if token < 4 { token + 2 } else { LINK };
+        if token < 4 || leaks {
+            let hand_over = [[token, 0, 0], [END, 0, 1]];
+            draft
+                .rules
+                .push(rule(2, &hand_over, &[[ENTER, handed, 1, 1]]));
+        }
+        let next_row = [[token, 0, 2], [END, 2, 3], [LINK, 0, 1]];
+        draft
+            .rules
+            .push(rule(4, &next_row, &[[ENTER, token + 1, 1, 3]]));
+        let walk = [[token, 0, 1], [LINK, 1, 2]];
+        draft
+            .rules
+            .push(rule(3, &walk, &[[ENTER, token + 1, 0, 2]]));
+        draft.carry(token + 1, token);
+    }
+    (draft, LINK)
+}
+
+/// The closing search with what goes carried by what stays.
+fn carried_closing(names: usize, blanks: u8, leaks: bool) -> (Draft, u8) {
+    let (mut draft, right) = closing(names, blanks, leaks);
+    draft.carry(1, 0);
+    draft.carry(3, 1);
+    (draft, right)
+}
+
+/// Tables with rights that carry others.
+fn carried(random: &mut Random) -> Vec<Sample> {
+    let by_rounds = |answer: &Answer| answer.is_unsafe && answer.steps.len() >= 5;
+    let safe = |answer: &Answer| !answer.is_unsafe && answer.steps.len() >= 10;
+    let rounds = |answer: &Answer| !answer.is_unsafe && answer.rounds >= 4;
+    // One right over two others, of which one carries a fourth.
+    let few = [(4, 3), (4, 2), (3, 1)];
+    let chain: Vec<(u8, u8)> = (1..7).map(|right| (right, right + 1)).collect();
+    let cycle: Vec<(u8, u8)> = (1..8).map(|right| (right, right % 7 + 1)).collect();
+    let mut table = |shape, carries, is_wanted: &dyn Fn(&Answer) -> bool| {
+        wanted_with(random, shape, carries, is_wanted)
+    };
+    vec![
+        Sample::new("carries", "typical", table(&TYPICAL, &few, &safe)),
+        Sample::new("carries", "unsafe", table(&TYPICAL, &few, &by_rounds)),
+        Sample::new("carries", "large", table(&LARGE, &few, &rounds)),
+        Sample::new("carries", "chain", table(&CARRIED, &chain, &rounds)),
+        Sample::new("carries", "cycle", table(&CARRIED, &cycle, &safe)),
+        Sample::new("carries", "links", carried_links(30)),
+        Sample::new("carries", "tokens", carried_tokens(30, true)),
+        Sample::new("carries", "safe", carried_tokens(30, false)),
+        Sample::new("carries", "closing", carried_closing(30, 4, true)),
+    ]
+}
+
 pub fn all(seed: u64) -> Vec<Sample> {
     let mut random = Random::new(seed);
     let random = &mut random;
@@ -333,5 +427,6 @@ pub fn all(seed: u64) -> Vec<Sample> {
         Sample::new("closing", "4-blanks", closing(30, 4, true)),
         Sample::new("closing", "safe", closing(30, 4, false)),
     ]);
+    samples.extend(carried(random));
     samples
 }

@@ -20,7 +20,8 @@ pub enum Kind {
 
 pub struct Rule {
     pub blanks: usize,
-    /// Bit, subject blank, object blank.
+    /// The bits of the rights that carry the one that is tested, subject blank,
+    /// object blank.
     pub conditions: Vec<(u8, usize, usize)>,
     pub kind: Kind,
     /// The bit that is entered or deleted, 0 in other kinds.
@@ -52,8 +53,9 @@ impl State {
         self.kinds.iter().position(|kind| *kind == 0)
     }
 
-    pub fn has(&self, subject: usize, object: usize, bit: u8) -> bool {
-        self.cells[(32 * subject + object) & 1023] & bit != 0
+    /// Whether the cell has the right of this bit, or one of several.
+    pub fn has(&self, subject: usize, object: usize, bits: u8) -> bool {
+        self.cells[(32 * subject + object) & 1023] & bits != 0
     }
 }
 
@@ -100,7 +102,7 @@ impl Table {
                 conditions: rule
                     .conditions
                     .iter()
-                    .map(|test| (1 << test.right, test.subject, test.object))
+                    .map(|test| (test.carriers, test.subject, test.object))
                     .collect(),
                 kind,
                 bit,

@@ -86,7 +86,8 @@ pub const NAMES: Choice = Choice {
     long: "--names",
     short: None,
     value: Some("TABLE"),
-    help: "the words of this table for a house file; its rights and rules must be the file's",
+    help:
+        "the words of this table for a house file; its rights, carries and rules must be the file's",
 };
 pub const FORCE: Choice = Choice {
     long: "--force",

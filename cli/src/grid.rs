@@ -1,8 +1,52 @@
-//! The matrix as a grid of words.
+//! The matrix as a grid of words, and what its rights carry.
 
+use crate::house::carries::Carries;
 use crate::house::Matrix;
 use crate::terminal::{padded, width};
 use crate::words::Words;
+
+/// The grid, and below it what rights carry if some do.
+pub fn whole(
+    matrix: &Matrix,
+    carries: &Carries,
+    words: &Words,
+    columns: Option<usize>,
+) -> Vec<String> {
+    let mut lines = lines(matrix, words, columns);
+    let legend = legend(carries, words, columns);
+    if !legend.is_empty() {
+        lines.push(String::new());
+        lines.extend(legend);
+    }
+    lines
+}
+
+/// A sentence for each right that carries others: `approve carries read and print`. One that is wider than `columns` goes
+/// on in further lines.
+pub fn legend(carries: &Carries, words: &Words, columns: Option<usize>) -> Vec<String> {
+    let mut lines = Vec::new();
+    for right in 0..words.rights.len() {
+        let others = carries.others(right);
+        let mut line = format!("{} carries", words.right(right));
+        for (place, &other) in others.iter().enumerate() {
+            let word = words.right(other);
+            let piece = match others.len() - place {
+                1 if place > 0 => format!("and {word}"),
+                1 | 2 => word,
+                _ => format!("{word},"),
+            };
+            if columns.is_some_and(|columns| width(&line) + 1 + width(&piece) > columns) {
+                lines.push(std::mem::replace(&mut line, " ".to_string()));
+            }
+            line.push(' ');
+            line.push_str(&piece);
+        }
+        if !others.is_empty() {
+            lines.push(line);
+        }
+    }
+    lines
+}
 
 /// Rows of subjects and columns of names, in blocks that are at most `columns` wide if that is given.
 pub fn lines(matrix: &Matrix, words: &Words, columns: Option<usize>) -> Vec<String> {

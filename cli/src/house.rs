@@ -1,11 +1,13 @@
 //! What a house file says, in numbers: the matrix and the rules.
 
+pub mod carries;
 pub mod decode;
 pub mod encode;
 pub mod place;
 pub mod sections;
 
 use crate::limits::NAMES;
+use carries::Carries;
 
 #[derive(Clone, Copy, Debug, PartialEq, Eq)]
 pub enum Kind {
@@ -41,7 +43,7 @@ impl RightSet {
     }
 }
 
-/// The right is in the cell of two blanks.
+/// The right, or one that carries it, is in the cell of two blanks.
 #[derive(Clone, Copy, Debug, PartialEq, Eq)]
 pub struct Condition {
     pub right: usize,
@@ -163,6 +165,7 @@ impl Matrix {
 pub struct House {
     /// The number of rights, g.
     pub rights: usize,
+    pub carries: Carries,
     pub matrix: Matrix,
     pub rules: Vec<Rule>,
 }

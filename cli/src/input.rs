@@ -133,13 +133,13 @@ pub fn content(file: &[u8], names: Option<&OsStr>) -> Result<Result<Content, u8>
     Ok(Ok(Content { house, words }))
 }
 
-/// The words of a table for a file, which must have the same number of rights and the same rules.
+/// The words of a table for a file, which must have the same number of rights, carries and rules.
 fn words_of(path: &OsStr, file: &[u8]) -> Result<Words, Failure> {
     let table = read_table(&bytes(path)?, path)?;
     let (made, refusal) = made(&table, path)?;
     if refusal != 0 || !same_rules(&made, file) {
         return Err(Failure::said(
-            format!("{}: the rights or rules are not those of the file", shown(path)),
+            format!("{}: the rights, what they carry or the rules are not those of the file", shown(path)),
             "another table's words would make a right verdict a wrong one: give the table that the file was made of, or leave out --names",
         ));
     }

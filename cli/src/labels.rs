@@ -1,8 +1,9 @@
 //! Rights, names, rules and steps for other programs: numbers, with words beside them.
 
+use crate::house::carries::Carries;
 use crate::house::{Kind, Matrix, Rule};
 use crate::json::Json;
-use crate::machine::{Act, Held};
+use crate::machine::{Act, Ground, Held};
 use crate::story::Done;
 use crate::trace::{Given, Step};
 use crate::words::Words;
@@ -81,6 +82,22 @@ pub fn cells(words: &Words, matrix: &Matrix) -> Json {
     Json::List(cells)
 }
 
+/// The rights that carry some: what the file says of each, and all the others that this comes to.
+pub fn carries(words: &Words, carries: &Carries) -> Json {
+    let rights =
+        |some: &mut dyn Iterator<Item = usize>| some.map(|one| right(words, one)).collect();
+    let one = |number: usize| {
+        let said = carries.said(number);
+        let fields = vec![
+            ("right", right(words, number)),
+            ("rights", rights(&mut said.iter())),
+            ("all", rights(&mut carries.others(number).into_iter())),
+        ];
+        (!said.is_empty()).then_some(Json::Object(fields))
+    };
+    (0..words.rights.len()).filter_map(one).collect()
+}
+
 /// A rule and what its blanks get, one by one.
 pub fn call(words: &Words, rules: &[Rule], step: Step) -> Vec<(&'static str, Json)> {
     let given = step.given(rules).into_iter();
@@ -95,12 +112,30 @@ pub fn call(words: &Words, rules: &[Rule], step: Step) -> Vec<(&'static str, Jso
 }
 
 pub fn done(words: &Words, rules: &[Rule], done: &Done) -> Json {
+    Json::Object(did(words, rules, done))
+}
+
+/// A step, the carried rights that it went by if there are some, and what it did.
+pub fn did(words: &Words, rules: &[Rule], done: &Done) -> Vec<(&'static str, Json)> {
     let mut fields = call(words, rules, done.step);
-    fields.push((
-        "acts",
-        done.acts.iter().map(|one| act(words, one)).collect(),
-    ));
-    Json::Object(fields)
+    let carried: Vec<Json> = done.carried().map(|one| ground(words, one)).collect();
+    if !carried.is_empty() {
+        fields.push(("carried", Json::List(carried)));
+    }
+    let acts = done.acts.iter().map(|one| act(words, one));
+    fields.push(("acts", acts.collect()));
+    fields
+}
+
+/// The right that a condition asks for, its cell, and the right there that carries it.
+fn ground(words: &Words, ground: Ground) -> Json {
+    let (asked, subject, object) = ground.asked;
+    Json::Object(vec![
+        ("right", right(words, asked)),
+        ("subject", name(words, subject)),
+        ("object", name(words, object)),
+        ("by", right(words, ground.by)),
+    ])
 }
 
 pub fn act(words: &Words, act: &Act) -> Json {

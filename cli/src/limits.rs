@@ -16,10 +16,13 @@ pub const FILE_BYTES: usize = 4096;
 pub const HEADER_BYTES: usize = 2;
 /// Offset and length of a section.
 pub const PAIR_BYTES: usize = 4;
-/// The sections before the rules: kinds and cells.
-pub const FIXED_SECTIONS: usize = 2;
-pub const CELL_BYTES: usize = 1;
-pub const CELLS_BYTES: usize = CELL_BYTES * NAMES * NAMES;
+/// The sections that a rule run changes: kinds and cells.
+pub const MATRIX_SECTIONS: usize = 2;
+/// The sections before the rules: kinds, cells and what the rights carry.
+pub const FIXED_SECTIONS: usize = MATRIX_SECTIONS + 1;
+/// A set of rights: a cell, or what a right carries.
+pub const SET_BYTES: usize = 1;
+pub const CELLS_BYTES: usize = SET_BYTES * NAMES * NAMES;
 /// Blanks, conditions, steps.
 pub const RULE_HEAD_BYTES: usize = 3;
 pub const CONDITION_BYTES: usize = 3;

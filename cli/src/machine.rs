@@ -1,7 +1,7 @@
-//! The six operations on a matrix, to tell in words what a rule run did. What counts is the proved library's answer; what
-//! is found here is told only where it agrees with that answer.
+//! Conditions and the six operations on a matrix, to tell in words what a rule run did and what it went by. What counts is
+//! the proved library's answer; what is found here is told only where it agrees with that answer.
 
-use crate::house::{Kind, Matrix, Operation};
+use crate::house::{Condition, House, Kind, Matrix, Operation};
 use crate::limits::NAMES;
 
 /// A right in a cell: right, subject, object.
@@ -40,7 +40,40 @@ pub enum Why {
     There(usize),
     /// A subject where an object that is none is needed.
     Subject(usize),
-    Lacks,
+    /// Neither the right nor one that carries it is in the cell.
+    Lacks(usize),
+}
+
+/// What a condition went by: the right that it asks for, in its cell, and the right that was there and carries it, most
+/// often the same one.
+#[derive(Clone, Copy, Debug, PartialEq, Eq)]
+pub struct Ground {
+    pub asked: Held,
+    pub by: usize,
+}
+
+impl Ground {
+    /// The right that was there, in its cell.
+    pub fn held(self) -> Held {
+        (self.by, self.asked.1, self.asked.2)
+    }
+
+    /// Whether another right than the one asked for was there.
+    pub fn carried(self) -> bool {
+        self.by != self.asked.0
+    }
+}
+
+/// What a condition goes by, or why it does not hold. The blanks that it names have names.
+pub fn ground(house: &House, condition: &Condition, names: &[usize]) -> Result<Ground, Why> {
+    let (subject, object) = (names[condition.subject], names[condition.object]);
+    let (s, o) = reachable(&house.matrix, subject, object)?;
+    let cell = house.matrix.cell(s, o);
+    let by = house.carries.ground(cell, condition.right);
+    Ok(Ground {
+        asked: (condition.right, s, o),
+        by: by.ok_or(Why::Lacks(condition.right))?,
+    })
 }
 
 /// Does an operation, if it can be done. The blanks that it names have names.

@@ -5,6 +5,7 @@ pub mod layout;
 pub mod matrix;
 pub mod panel;
 
+use crate::grid::legend;
 use crate::input::Content;
 use crate::verdict::{left_out, text, Verdict};
 use canvas::Canvas;
@@ -20,10 +21,13 @@ pub fn svg(title: &str, content: &Content, verdicts: &[Verdict]) -> String {
     let wide = panels.iter().map(|panel| panel.width).max().unwrap_or(0);
     let mut page = Canvas::new(2 * MARGIN + wide, MARGIN + 30);
     page.text(MARGIN, MARGIN + 14, "title", title);
+    let mut further = legend(&content.house.carries, &content.words, None);
     if let names @ [_, ..] = left_out(verdicts) {
-        let without = text::without(&content.words, names);
-        page.text(MARGIN, page.height + 10, "quiet", &without);
-        page.width = page.width.max(2 * MARGIN + canvas::measure(&without, 13));
+        further.insert(0, text::without(&content.words, names));
+    }
+    for line in further {
+        page.text(MARGIN, page.height + 10, "quiet", &line);
+        page.width = page.width.max(2 * MARGIN + canvas::measure(&line, 13));
         page.height += 22;
     }
     for panel in panels {

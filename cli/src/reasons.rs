@@ -1,10 +1,10 @@
 //! Why a rule run was refused: which actual, condition or step; and why a list of cells or of names was. The number is the
 //! proved library's; the reason is found beside it and is left out where it belongs to another number.
 
-use crate::count::count;
-use crate::house::{Condition, House, Kind, Matrix, Rule};
+use crate::count::{count, one_of};
+use crate::house::{House, Kind, Rule};
 use crate::limits::{NAMES, NEEDED_BYTES, NEEDED_CELLS, UNUSED};
-use crate::machine::{perform, reachable, Held, Why};
+use crate::machine::{ground, perform, reachable, Held, Why};
 use crate::need::cells;
 use crate::table::writer;
 use crate::trace::Step;
@@ -22,7 +22,7 @@ fn first(house: &House, words: &Words, step: Step) -> Option<(u8, String)> {
         return Some((11, no_rule(house, step.rule)));
     };
     let run = Run {
-        matrix: &house.matrix,
+        house,
         rule,
         words,
         step,
@@ -53,7 +53,7 @@ pub fn of_names(house: &House, words: &Words, names: &[u8]) -> Option<String> {
         let number = usize::from(name);
         match house.matrix.kinds.get(number) {
             None => Some(no_name(number)),
-            Some(Kind::Absent) => Some(because(Why::Absent(number), words)),
+            Some(Kind::Absent) => Some(because(Why::Absent(number), house, words)),
             _ if names[..place].contains(&name) => {
                 Some(format!("{} is listed twice", words.name(number)))
             }
@@ -80,7 +80,7 @@ fn not_there(house: &House, words: &Words, (right, subject, name): Held) -> Opti
         return Some(format!("the cell {cell}: {}", no_name(above)));
     }
     let why = reachable(&house.matrix, subject, name).err()?;
-    Some(format!("the cell {cell}: {}", because(why, words)))
+    Some(format!("the cell {cell}: {}", because(why, house, words)))
 }
 
 fn no_rule(house: &House, rule: u8) -> String {
@@ -92,7 +92,7 @@ fn no_rule(house: &House, rule: u8) -> String {
 }
 
 struct Run<'a> {
-    matrix: &'a Matrix,
+    house: &'a House,
     rule: &'a Rule,
     words: &'a Words,
     step: Step,
@@ -151,11 +151,13 @@ impl Run<'_> {
     fn conditions(&self) -> Option<String> {
         let names = self.names();
         for condition in &self.rule.conditions {
-            if let Err(why) = holds(self.matrix, condition, &names) {
+            if let Err(why) = ground(self.house, condition, &names) {
                 let text = writer::condition(condition, &self.name_words(), self.words);
                 let because = match why {
-                    Why::Lacks => String::new(),
-                    why => format!(": {}", because(why, self.words)),
+                    Why::Lacks(right) if self.house.carries.carriers(right).is_empty() => {
+                        String::new()
+                    }
+                    why => format!(": {}", because(why, self.house, self.words)),
                 };
                 return Some(format!("the condition {text} does not hold{because}"));
             }
@@ -164,13 +166,13 @@ impl Run<'_> {
     }
 
     fn steps(&self) -> Option<String> {
-        let mut matrix = self.matrix.clone();
+        let mut matrix = self.house.matrix.clone();
         for operation in &self.rule.steps {
             if let Err(why) = perform(&mut matrix, *operation, &self.names()) {
                 let text = writer::operation(operation, &self.name_words(), self.words);
                 return Some(format!(
                     "the step {text} cannot be done: {}",
-                    because(why, self.words)
+                    because(why, self.house, self.words)
                 ));
             }
         }
@@ -178,20 +180,24 @@ impl Run<'_> {
     }
 }
 
-fn holds(matrix: &Matrix, condition: &Condition, names: &[usize]) -> Result<(), Why> {
-    let (s, o) = reachable(matrix, names[condition.subject], names[condition.object])?;
-    match matrix.cell(s, o).has(condition.right) {
-        true => Ok(()),
-        false => Err(Why::Lacks),
-    }
-}
-
-fn because(why: Why, words: &Words) -> String {
+fn because(why: Why, house: &House, words: &Words) -> String {
     match why {
         Why::NoSubject(name) => format!("{} is no subject", words.name(name)),
         Why::Absent(name) => format!("{} does not exist", words.name(name)),
         Why::There(name) => format!("{} exists already", words.name(name)),
         Why::Subject(name) => format!("{} is a subject", words.name(name)),
-        Why::Lacks => "the right is not there".to_string(),
+        Why::Lacks(right) => {
+            let carriers = house.carries.carriers(right).into_iter();
+            let carriers: Vec<String> = carriers.map(|one| words.right(one)).collect();
+            let right = words.right(right);
+            match carriers.as_slice() {
+                [] => format!("{right} is not there"),
+                [one] => format!("neither {right} nor {one}, which carries it, is there"),
+                all => format!(
+                    "neither {right} nor {}, which carry it, is there",
+                    one_of(all)
+                ),
+            }
+        }
     }
 }

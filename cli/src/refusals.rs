@@ -38,7 +38,7 @@ const fn refusal(
     }
 }
 
-pub const ALL: [Refusal; 21] = [
+pub const ALL: [Refusal; 22] = [
     refusal(
         1,
         WRITER,
@@ -57,8 +57,8 @@ pub const ALL: [Refusal; 21] = [
     refusal(
         3,
         WRITER,
-        "the number of pairs is not 2 to 34",
-        "set byte 1 to 2 more than the number of rules; there are at most 32 rules",
+        "the number of pairs is not 3 to 35",
+        "set byte 1 to 3 more than the number of rules; there are at most 32 rules",
     ),
     refusal(
         4,
@@ -71,8 +71,8 @@ pub const ALL: [Refusal; 21] = [
         5,
         WRITER,
         "a section has a wrong length",
-        "give the kinds 32 bytes, the cells 1,024, and a rule 3 and 3 more for each condition \
-         and 4 for each step",
+        "give the kinds 32 bytes, the cells 1,024, the carries one for each right, and a rule 3 \
+         and 3 more for each condition and 4 for each step",
     ),
     refusal(
         6,
@@ -119,8 +119,8 @@ pub const ALL: [Refusal; 21] = [
         14,
         RUNNER,
         "a condition of the rule is not met",
-        "see in the matrix which right is missing from which cell; a rule that enters it may \
-         have to be run first",
+        "see in the matrix which right is missing from which cell, it or one that carries it; a \
+         rule that enters one may have to be run first",
     ),
     refusal(
         15,
@@ -180,5 +180,11 @@ pub const ALL: [Refusal; 21] = [
         ASKER,
         "the sheet has more than 8 rights",
         "put the rights on several sheets of at most 8. tugcaphi always does",
+    ),
+    refusal(
+        44,
+        WRITER,
+        "a right carries one that the file does not have",
+        "let rights carry rights below the number of rights alone; an entry of 0 carries none",
     ),
 ];

@@ -1,6 +1,7 @@
 //! One HTML page with all that a verdict rests on: grid, rules, verdicts, steps and pictures. It needs nothing from
 //! anywhere else, and every element is closed, so that any XML reader can read it too.
 
+use crate::grid::legend;
 use crate::house::House;
 use crate::input::Content;
 use crate::picture::canvas::{escaped, measure};
@@ -61,7 +62,10 @@ pub fn page(title: &str, content: &Content, verdicts: &[Verdict]) -> String {
         }
     }
     let judged = content.without(names).house;
-    page += &section("The matrix", &matrix(&judged, words));
+    page += &section(
+        "The matrix",
+        &(matrix(&judged, words) + &carrying(house, words)),
+    );
     page += &section("The rules", &rules(house, words));
     page += &section("How to read this", &reading(house, !names.is_empty()));
     page += "</main>\n</body>\n</html>\n";
@@ -83,9 +87,14 @@ const PART: &str = "\
 <p>Names that are left out are trusted: matrix, verdicts and pictures are of the table without their rows and columns. \
 Safe then holds as long as no rule is run with one of them. Unsafe holds with them there too.</p>\n";
 
+const CARRYING: &str = "\
+<p>A condition of a rule holds by its own right and by every right in the cell that carries it. What a step enters or \
+deletes, and what a verdict is about, is the right itself.</p>\n";
+
 fn reading(house: &House, part: bool) -> String {
     let spare = house.rules.iter().any(|rule| !rule.spare().is_empty());
-    let further = [(part, PART), (spare, SPARE)];
+    let carrying = house.carries.any();
+    let further = [(part, PART), (spare, SPARE), (carrying, CARRYING)];
     let further = further.iter().filter(|(told, _)| *told);
     further.fold(READING.to_string(), |page, (_, text)| page + text)
 }
@@ -143,7 +152,7 @@ fn steps(content: &Content, leak: &Leak) -> String {
     let mut list = String::from("<ol>\n");
     for done in &leak.steps {
         let call = escaped(&story::call(words, &house.rules, done.step, Jobs::LeftOut));
-        let sentence = escaped(&story::sentence(words, &done.acts));
+        let sentence = escaped(&story::sentence(words, done));
         let _ = writeln!(list, "<li><b>{call}</b> {sentence}</li>");
     }
     list + "</ol>\n"
@@ -178,6 +187,13 @@ fn matrix(house: &House, words: &Words) -> String {
         rest = after;
     }
     grids
+}
+
+/// What rights carry, a paragraph each.
+fn carrying(house: &House, words: &Words) -> String {
+    let lines = legend(&house.carries, words, None);
+    let paragraph = |line: &String| format!("<p>{}</p>\n", escaped(line));
+    lines.iter().map(paragraph).collect()
 }
 
 /// What a column of these texts takes, in pixels.

@@ -1,18 +1,27 @@
-//! Steps in words: what each one enters or creates. The steps are carried out by the proved library.
+//! Steps in words: what each one enters or creates, and by which carried right it could. The steps are carried out by the proved library.
 
-use crate::count::count;
+use crate::count::{all_of, count};
 use crate::house::decode::decode;
 use crate::house::{House, Kind, Matrix, Rule};
 use crate::library;
 use crate::limits::NAMES;
-use crate::machine::{perform, Act, Held};
+use crate::machine::{ground, perform, Act, Ground, Held};
 use crate::trace::{steps, Given, Step};
 use crate::words::Words;
 
-/// A step that was done, and what it did.
+/// A step that was done, what its conditions went by, and what it did.
 pub struct Done {
     pub step: Step,
+    pub grounds: Vec<Ground>,
     pub acts: Vec<Act>,
+}
+
+impl Done {
+    /// What conditions went by for which another right was there than they ask for.
+    pub fn carried(&self) -> impl Iterator<Item = Ground> + '_ {
+        let grounds = self.grounds.iter().copied();
+        grounds.filter(|ground| ground.carried())
+    }
 }
 
 /// Carries out a step on the bytes of a file, which say what `house` says, before and after: what it did, or the refusal.
@@ -20,9 +29,14 @@ pub fn carry_out(file: &mut [u8], house: &mut House, step: Step) -> Result<Done,
     match library::run(file, step.rule, step.actuals) {
         0 => {
             let after = decode(file).matrix;
+            let grounds = grounds(house, step);
             let acts = acts(house, step, &after);
             house.matrix = after;
-            Ok(Done { step, acts })
+            Ok(Done {
+                step,
+                grounds,
+                acts,
+            })
         }
         refusal => Err(refusal),
     }
@@ -37,6 +51,19 @@ pub fn carry_out_all(file: &[u8], house: &House, trace: &[u8]) -> Option<(Vec<Do
         done.push(carry_out(&mut file, &mut after, step).ok()?);
     }
     Some((done, after))
+}
+
+/// What the conditions of a rule went by, each once.
+fn grounds(before: &House, step: Step) -> Vec<Ground> {
+    let names = step.actuals.map(usize::from);
+    let mut grounds = Vec::new();
+    for condition in &before.rules[usize::from(step.rule)].conditions {
+        match ground(before, condition, &names) {
+            Ok(ground) if !grounds.contains(&ground) => grounds.push(ground),
+            _ => {}
+        }
+    }
+    grounds
 }
 
 /// What the operations of a rule did one by one, or, where this does not come to the library's matrix, the difference.
@@ -150,8 +177,30 @@ pub fn clause(words: &Words, act: &Act) -> String {
     }
 }
 
-/// All that a step did, in one line.
-pub fn sentence(words: &Words, acts: &[Act]) -> String {
-    let clauses: Vec<String> = acts.iter().map(|act| clause(words, act)).collect();
-    clauses.join("; ")
+/// By which rights conditions held that ask for others: `Ada has approve over vermilion, which carries read`.
+pub fn carrying(words: &Words, done: &Done) -> Vec<String> {
+    let mut grounds: Vec<(Held, Vec<String>)> = Vec::new();
+    for ground in done.carried() {
+        let asked = words.right(ground.asked.0);
+        match grounds.iter_mut().find(|(held, _)| *held == ground.held()) {
+            Some((_, all)) => all.push(asked),
+            None => grounds.push((ground.held(), vec![asked])),
+        }
+    }
+    let sentence = |((right, subject, object), asked): (Held, Vec<String>)| {
+        let (right, asked) = (words.right(right), all_of(&asked));
+        let (subject, object) = (words.name(subject), words.name(object));
+        format!("{subject} has {right} over {object}, which carries {asked}")
+    };
+    grounds.into_iter().map(sentence).collect()
+}
+
+/// All that a step did, in one line, and the carried rights that it went by.
+pub fn sentence(words: &Words, done: &Done) -> String {
+    let clauses: Vec<String> = done.acts.iter().map(|act| clause(words, act)).collect();
+    let since = match carrying(words, done).as_slice() {
+        [] => String::new(),
+        all => format!(", since {}", all.join(", and ")),
+    };
+    clauses.join("; ") + &since
 }

@@ -14,7 +14,7 @@ use std::collections::HashSet;
 use std::hash::{BuildHasherDefault, Hasher};
 
 pub const POOL: usize = 8;
-pub const RIGHTS: usize = 2;
+pub const RIGHTS: usize = 3;
 
 /// Bit i of `exists` and `subjects` is the pool's name i; bit 8s + o of
 /// `cells[r]` is right r in the cell of the pool's names s and o.
@@ -58,6 +58,32 @@ impl State {
             }
         }
         state
+    }
+}
+
+/// Which right carries which, `[i][q]`: the file's relation and each right itself,
+/// squared until chains through all rights are in it.
+pub struct Carrying([[bool; RIGHTS]; RIGHTS]);
+
+impl Carrying {
+    pub fn of(contents: &Contents) -> Carrying {
+        let in_file =
+            |i: usize, q: usize| contents.carries.get(i).is_some_and(|set| set >> q & 1 == 1);
+        let mut all = std::array::from_fn(|i| std::array::from_fn(|q| i == q || in_file(i, q)));
+        for _ in 0..RIGHTS {
+            let once: [[bool; RIGHTS]; RIGHTS] = all;
+            let through = |i: usize, q: usize| (0..RIGHTS).any(|j| once[i][j] && once[j][q]);
+            all = std::array::from_fn(|i| std::array::from_fn(|q| through(i, q)));
+        }
+        Carrying(all)
+    }
+
+    /// The cells that meet a condition on each right.
+    pub fn met(&self, state: &State) -> [u64; RIGHTS] {
+        std::array::from_fn(|q| {
+            let carriers = (0..RIGHTS).filter(|&i| self.0[i][q]);
+            carriers.fold(0, |cells, i| cells | state.cells[i])
+        })
     }
 }
 
@@ -148,7 +174,8 @@ impl Instance {
         instance
     }
 
-    pub fn run(&self, state: &State) -> Move {
+    /// `met`: the cells of the state that meet a condition on each right.
+    pub fn run(&self, state: &State, met: &[u64; RIGHTS]) -> Move {
         if state.exists & self.exists != self.exists
             || state.subjects & self.subjects != self.subjects
             || state.exists & self.absent != 0
@@ -157,7 +184,7 @@ impl Instance {
             return Move::Refused;
         }
         for right in 0..RIGHTS {
-            if state.cells[right] & self.cells[right] != self.cells[right] {
+            if met[right] & self.cells[right] != self.cells[right] {
                 return Move::Refused;
             }
         }
@@ -246,6 +273,7 @@ pub fn search(contents: &Contents, right: u8, further: usize, limit: usize) -> S
     let matrix = &contents.matrix;
     let pool = pool(matrix, further);
     let instances = instances(&contents.rules, pool.len());
+    let carrying = Carrying::of(contents);
 
     let start = State::start(matrix, &pool);
     let mut seen: HashSet<State, BuildHasherDefault<Mixer>> = HashSet::default();
@@ -259,8 +287,9 @@ pub fn search(contents: &Contents, right: u8, further: usize, limit: usize) -> S
         recreated: false,
     };
     while let Some(state) = waiting.pop() {
+        let met = carrying.met(&state);
         for instance in &instances {
-            let after = match instance.run(&state) {
+            let after = match instance.run(&state, &met) {
                 // The state stays, so a refused run adds none.
                 Move::Refused => {
                     search.refused += 1;
@@ -322,13 +351,15 @@ impl Reached {
             _ => false,
         };
         instances.retain(|instance| runs == Runs::All || !destroys(instance));
+        let carrying = Carrying::of(contents);
         let mut seen: HashSet<State, BuildHasherDefault<Mixer>> = HashSet::from_iter([start]);
         let mut states = vec![start];
         let mut at = 0;
         while let Some(&state) = states.get(at) {
             at += 1;
+            let met = carrying.met(&state);
             for instance in &instances {
-                let (Move::To(after) | Move::Leak(_, after)) = instance.run(&state) else {
+                let (Move::To(after) | Move::Leak(_, after)) = instance.run(&state, &met) else {
                     continue;
                 };
                 if seen.insert(after) {

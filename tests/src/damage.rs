@@ -15,6 +15,7 @@ pub enum Fault {
     MatrixLength,
     Kind,
     Cell,
+    Carried,
     Rule(usize, RuleFault),
 }
 
@@ -36,6 +37,7 @@ impl Fault {
             Fault::MatrixLength => 5,
             Fault::Kind => 6,
             Fault::Cell => 7,
+            Fault::Carried => 44,
             Fault::Rule(_, RuleFault::UnderThree | RuleFault::Length) => 5,
             Fault::Rule(_, RuleFault::Head) => 8,
             Fault::Rule(_, RuleFault::Body) => 9,
@@ -43,7 +45,7 @@ impl Fault {
     }
 
     pub fn any(random: &mut Random, rules: usize) -> Fault {
-        let choices = if rules == 0 { 8 } else { 14 };
+        let choices = if rules == 0 { 9 } else { 15 };
         match random.below(choices) {
             0 => Fault::Size,
             1 => Fault::Rights,
@@ -53,6 +55,7 @@ impl Fault {
             5 => Fault::MatrixLength,
             6 => Fault::Kind,
             7 => Fault::Cell,
+            8 => Fault::Carried,
             _ => {
                 let faults = [
                     RuleFault::UnderThree,
@@ -68,7 +71,7 @@ impl Fault {
 
 /// The draft's file with the faults in it. Those reported later are planted
 /// first, so that an earlier one never takes a later one's place away.
-/// None if the matrix has no room for a cell fault.
+/// None if there is no room for a fault in a cell or in the carries.
 pub fn plant(random: &mut Random, draft: &Draft, faults: &[Fault]) -> Option<Vec<u8>> {
     let mut faults = faults.to_vec();
     faults.sort();
@@ -80,15 +83,16 @@ pub fn plant(random: &mut Random, draft: &Draft, faults: &[Fault]) -> Option<Vec
         match *fault {
             Fault::Rule(rule, kind) => plant_in_rule(random, &mut draft, rule, kind),
             Fault::Cell => plant_in_cell(random, &mut draft)?,
+            Fault::Carried => plant_in_carries(random, &mut draft)?,
             Fault::Kind => {
                 let name = random.below(draft.kinds.len());
                 draft.kinds[name] = random.between(3, 255) as u8;
             }
             Fault::MatrixLength => {
-                let section = if random.percent(50) {
-                    &mut draft.kinds
-                } else {
-                    &mut draft.cells
+                let section = match random.below(3) {
+                    0 => &mut draft.kinds,
+                    1 => &mut draft.cells,
+                    _ => &mut draft.carries,
                 };
                 let length = section.len();
                 let wrong = match random.below(5) {
@@ -123,7 +127,7 @@ pub fn plant(random: &mut Random, draft: &Draft, faults: &[Fault]) -> Option<Vec
                 let needed = 2 + 4 * file[1] as usize;
                 file.truncate(random.between(2, needed - 1));
             }
-            Fault::Pairs => file[1] = random.pick(&[0, 1, 35, 36, 64, 128, 255]),
+            Fault::Pairs => file[1] = random.pick(&[0, 1, 2, 36, 37, 64, 128, 255]),
             Fault::Rights => file[0] = random.pick(&[0, 9, 10, 16, 128, 255]),
             Fault::Size => {
                 if random.percent(50) {
@@ -153,6 +157,16 @@ fn plant_in_cell(random: &mut Random, draft: &mut Draft) -> Option<()> {
         }
     }
     None
+}
+
+/// A carried right from g on; with 8 rights there is none.
+fn plant_in_carries(random: &mut Random, draft: &mut Draft) -> Option<()> {
+    if draft.rights >= 8 {
+        return None;
+    }
+    let right = random.below(draft.carries.len());
+    draft.carries[right] |= 1 << random.between(draft.rights as usize, 7);
+    Some(())
 }
 
 fn plant_in_rule(random: &mut Random, draft: &mut Draft, rule: usize, fault: RuleFault) {

@@ -1,14 +1,20 @@
-//! The house file: its bytes are refused with 1 to 9, or give the contents.
+//! The house file: its bytes are refused with 1 to 9 or 44, or give the contents.
 
+use crate::carrying::carriers;
 use crate::machine::Bounded;
 
 pub const NAMES: usize = 32;
 pub const CELLS: usize = 1024;
 
-/// A condition: the right is in the cell of these two blanks.
+/// Kinds, cells and carries come before the rules.
+pub const FIXED_PAIRS: usize = 3;
+
+/// A condition: a right that carries this one is in the cell of these two blanks.
 #[derive(Clone, Copy, Debug, PartialEq, Eq)]
 pub struct Condition {
     pub right: u8,
+    /// The rights that carry it, itself among them.
+    pub carriers: u8,
     pub subject: usize,
     pub object: usize,
 }
@@ -80,6 +86,8 @@ pub struct Contents {
     /// The number of rights, g.
     pub rights: u8,
     pub matrix: Bounded,
+    /// Byte i: the rights that right i carries, as the file has it.
+    pub carries: Vec<u8>,
     pub rules: Vec<Rule>,
 }
 
@@ -93,7 +101,8 @@ fn low_byte_first(bytes: &[u8], at: usize) -> usize {
     bytes[at] as usize + 256 * bytes[at + 1] as usize
 }
 
-/// The contents, or the first refusal in the order that document 01 gives.
+/// The contents, or the first refusal in the order that document 01 gives, with
+/// document 02's 44 between 7 and the rules.
 pub fn read(bytes: &[u8]) -> Result<Contents, u8> {
     if !(2..=4096).contains(&bytes.len()) {
         return Err(1);
@@ -103,7 +112,7 @@ pub fn read(bytes: &[u8]) -> Result<Contents, u8> {
         return Err(2);
     }
     let pairs = bytes[1] as usize;
-    if !(2..=34).contains(&pairs) {
+    if !(FIXED_PAIRS..=FIXED_PAIRS + 32).contains(&pairs) {
         return Err(3);
     }
     let table_end = 2 + 4 * pairs;
@@ -130,7 +139,8 @@ pub fn read(bytes: &[u8]) -> Result<Contents, u8> {
 
     let kinds = section(0);
     let cells = section(1);
-    if kinds.len() != NAMES || cells.len() != CELLS {
+    let carries = section(2);
+    if kinds.len() != NAMES || cells.len() != CELLS || carries.len() != rights as usize {
         return Err(5);
     }
     for &kind in kinds {
@@ -151,9 +161,16 @@ pub fn read(bytes: &[u8]) -> Result<Contents, u8> {
         }
     }
 
+    for &carried in carries {
+        if u16::from(carried) >> rights != 0 {
+            return Err(44);
+        }
+    }
+
+    let carriers = carriers(carries);
     let mut rules = Vec::new();
-    for pair in 2..pairs {
-        rules.push(read_rule(section(pair), rights)?);
+    for pair in FIXED_PAIRS..pairs {
+        rules.push(read_rule(section(pair), &carriers)?);
     }
 
     let mut matrix = Bounded::empty();
@@ -162,11 +179,14 @@ pub fn read(bytes: &[u8]) -> Result<Contents, u8> {
     Ok(Contents {
         rights,
         matrix,
+        carries: carries.to_vec(),
         rules,
     })
 }
 
-fn read_rule(section: &[u8], rights: u8) -> Result<Rule, u8> {
+/// `carriers`: of each right of the file the rights that carry it.
+fn read_rule(section: &[u8], carriers: &[u8]) -> Result<Rule, u8> {
+    let rights = carriers.len() as u8;
     if section.len() < 3 {
         return Err(5);
     }
@@ -187,6 +207,7 @@ fn read_rule(section: &[u8], rights: u8) -> Result<Rule, u8> {
         }
         conditions.push(Condition {
             right,
+            carriers: carriers[right as usize],
             subject: subject as usize,
             object: object as usize,
         });

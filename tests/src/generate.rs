@@ -1,5 +1,6 @@
 //! Generators of accepted files, of rule runs and of traces.
 
+use crate::carrying::carriers;
 use crate::file::{Contents, Rule, Step, CELLS, NAMES};
 use crate::machine::{numbers, run, AccessMatrix, Bounded, Kind};
 use crate::random::Random;
@@ -17,6 +18,8 @@ pub struct Draft {
     pub rights: u8,
     pub kinds: Vec<u8>,
     pub cells: Vec<u8>,
+    /// Byte i: the rights that right i carries.
+    pub carries: Vec<u8>,
     pub rules: Vec<Vec<u8>>,
 }
 
@@ -26,6 +29,7 @@ impl Draft {
             rights,
             kinds: vec![0; NAMES],
             cells: vec![0; CELLS],
+            carries: vec![0; rights as usize],
             rules: Vec::new(),
         }
     }
@@ -34,8 +38,20 @@ impl Draft {
         self.cells[32 * subject + object] |= 1 << right;
     }
 
+    /// The right carries the other one.
+    pub fn carry(&mut self, right: u8, other: u8) {
+        self.carries[right as usize] |= 1 << other;
+    }
+
+    /// The same without carries.
+    pub fn carrying_nothing(&self) -> Draft {
+        let mut draft = self.clone();
+        draft.carries.fill(0);
+        draft
+    }
+
     pub fn file(&self) -> Vec<u8> {
-        let mut sections = vec![self.kinds.clone(), self.cells.clone()];
+        let mut sections = vec![self.kinds.clone(), self.cells.clone(), self.carries.clone()];
         sections.extend(self.rules.iter().cloned());
         let mut file = vec![self.rights, sections.len() as u8];
         let mut offset = 2 + 4 * sections.len();
@@ -63,6 +79,66 @@ impl Draft {
                     if self.kinds[s] == 2 && random.percent(density) {
                         self.put(s, o, right);
                     }
+                }
+            }
+        }
+    }
+
+    /// Carries by chance in so many of a hundred drafts: a few links, a chain, a
+    /// cycle, or all.
+    fn spread_carries(&mut self, random: &mut Random, chance: usize) {
+        if !random.percent(chance) {
+            return;
+        }
+        let rights = self.rights as usize;
+        let mut order: Vec<u8> = (0..self.rights).collect();
+        random.shuffle(&mut order);
+        order.truncate(random.between(1, rights));
+        match random.below(8) {
+            0..=2 => {
+                let links = random.between(1, 3);
+                for _ in 0..links {
+                    let [one, other] = [(); 2].map(|_| random.below(rights) as u8);
+                    self.carry(one, other);
+                }
+            }
+            3 | 4 => {
+                for link in order.windows(2) {
+                    self.carry(link[0], link[1]);
+                }
+            }
+            // Of one right: it carries itself.
+            5 | 6 => {
+                for (place, &right) in order.iter().enumerate() {
+                    self.carry(right, order[(place + 1) % order.len()]);
+                }
+            }
+            _ => {
+                let density = random.pick(&[50, 100]);
+                for right in 0..self.rights {
+                    for other in 0..self.rights {
+                        if random.percent(density) {
+                            self.carry(right, other);
+                        }
+                    }
+                }
+            }
+        }
+        if random.percent(60) {
+            self.give_way(random);
+        }
+    }
+
+    /// Many rights in cells give way to rights that carry them, so that conditions
+    /// hold by carrying alone.
+    fn give_way(&mut self, random: &mut Random) {
+        let carriers = carriers(&self.carries);
+        for cell in &mut self.cells {
+            for right in 0..self.rights {
+                let others = carriers[right as usize] & !(1 << right);
+                let others: Vec<u8> = (0..self.rights).filter(|o| others >> o & 1 == 1).collect();
+                if *cell >> right & 1 == 1 && !others.is_empty() && random.percent(60) {
+                    *cell = *cell & !(1 << right) | 1 << random.pick(&others);
                 }
             }
         }
@@ -217,13 +293,15 @@ pub fn any(random: &mut Random) -> Draft {
         _ => random.between(1, 31),
     };
     draft.rules = (0..rules).map(|_| any_rule(random, rights)).collect();
+    draft.spread_carries(random, 70);
     draft.spread_spares(random);
     draft
 }
 
-/// The longest file there can be: 2,442 bytes.
+/// The longest file there can be: 2,454 bytes.
 pub fn longest(random: &mut Random) -> Draft {
     let mut draft = matrix(random, 8, NAMES, 100, 100);
+    draft.spread_carries(random, 100);
     for _ in 0..32 {
         let conditions: Vec<_> = (0..4).map(|_| condition(random, 8, 4)).collect();
         let steps: Vec<_> = (1..=6).map(|kind| step(random, 8, 4, kind)).collect();
@@ -293,6 +371,7 @@ pub fn lively(random: &mut Random) -> Draft {
     let mut draft = matrix(random, rights, names, subjects, density);
     let rules = random.pick(&[1, 2, 4, 8, 16, 32]);
     draft.rules = (0..rules).map(|_| plausible_rule(random, rights)).collect();
+    draft.spread_carries(random, 60);
     draft.spread_spares(random);
     draft
 }
@@ -306,6 +385,7 @@ pub fn turbulent(random: &mut Random) -> Draft {
         draft.kinds[name] = random.below(3) as u8;
     }
     draft.scatter(random, 60);
+    draft.spread_carries(random, 60);
     for _ in 0..8 {
         let blanks = random.between(1, 3) as u8;
         let mut steps = Vec::new();
@@ -488,10 +568,14 @@ pub fn trace(random: &mut Random, contents: &Contents, length: usize) -> Vec<u8>
     trace
 }
 
-/// A table small enough for the brute search: at most 3 names, 2 rights and 4
+/// A table small enough for the brute search: at most 3 names, 3 rights and 4
 /// rules of one step. The right asked for is 0.
 pub fn small(random: &mut Random) -> Draft {
-    let rights = random.pick(&[1, 2, 2, 2, 2, 2]);
+    let carrying = random.percent(50);
+    let rights = match carrying {
+        true => random.pick(&[1, 2, 2, 2, 3, 3]),
+        false => random.pick(&[1, 2, 2, 2, 2, 2]),
+    };
     let names = random.pick(&[0, 1, 1, 2, 2, 2, 3, 3]);
     let subjects = random.pick(&[50, 80, 100]);
     let density = random.pick(&[0, 20, 50, 80]);
@@ -520,10 +604,10 @@ pub fn small(random: &mut Random) -> Draft {
             (2, 1) => random.pick(&[CREATE_SUBJECT, CREATE_OBJECT]),
             _ => random.pick(&[ENTER, ENTER, ENTER, DELETE, 3, 4, 5, 6]),
         };
-        let right = if (flavour == 0 && number < 2) || random.percent(35) {
+        let right = if (flavour == 0 && number < 2) || random.percent(35) || rights == 1 {
             0
         } else {
-            rights - 1
+            random.between(1, rights as usize - 1) as u8
         };
         draft
             .rules
@@ -531,6 +615,7 @@ pub fn small(random: &mut Random) -> Draft {
     }
     // The order of the rules is part of the judge's answer.
     random.shuffle(&mut draft.rules);
+    draft.spread_carries(random, if carrying { 100 } else { 0 });
     draft.spread_spares(random);
     draft
 }
@@ -617,6 +702,7 @@ pub fn large(random: &mut Random) -> (Draft, u8) {
     if rights > 2 && random.percent(40) {
         closing(random, &mut draft, right);
     }
+    draft.spread_carries(random, 50);
     draft.spread_spares(random);
     (draft, right)
 }
@@ -710,8 +796,23 @@ fn walks(random: &mut Random) -> (Draft, u8) {
     let tokens = rights - 3;
     let last_token = tokens - 1;
     let (first, last) = (path[0], *path.last().unwrap());
+    // A right that carries the link does as well: of the tokens, each of which is
+    // tested on the diagonal alone, some carry a lower one, and the lowest of these
+    // the link.
+    let mut links = vec![link];
+    if random.percent(50) {
+        for token in 0..tokens {
+            if random.percent(50) {
+                draft.carry(token, links[links.len() - 1]);
+                links.push(token);
+            }
+        }
+    }
     for pair in path.windows(2) {
-        draft.put(pair[0], pair[1], link);
+        draft.put(pair[0], pair[1], random.pick(&links));
+    }
+    if random.percent(10) {
+        draft.spread_carries(random, 100);
     }
     draft.put(last, first, end);
     draft.put(first, first, 0);

@@ -4,6 +4,8 @@
 //! library.
 
 pub mod brute;
+pub mod carried;
+pub mod carrying;
 pub mod damage;
 pub mod desk;
 pub mod file;

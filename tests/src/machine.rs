@@ -203,7 +203,7 @@ pub fn run<M: AccessMatrix>(
         let object = actuals[condition.object];
         if !before.is_subject(subject)
             || !before.exists(object)
-            || before.cell(subject, object) >> condition.right & 1 == 0
+            || before.cell(subject, object) & condition.carriers == 0
         {
             return Err(14);
         }

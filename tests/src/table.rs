@@ -17,10 +17,11 @@
 //! subjects 0 1 4-6
 //! objects 2
 //! cell (0,2): 0                rights in a cell; names may be stretches: (0-3,2)
+//! carries 1: 0                 the rights that a right carries
 //! rule (a,b,c): if 0 in (a,c) and 1 in (a,b) enter 1 into (b,c)
 //! kind 3: 7                    the kind of a name
 //! rule bytes: 1 0 1 9          a rule's section
-//! size kinds: 31               a section cut or filled with 0, also `cells`
+//! size kinds: 31               a section cut or filled with 0, also `cells`, `carries`
 //! byte 2: 11                   a byte of the file, by its offset
 //! size file: 4097              the file cut or filled with 0
 //! ```
@@ -83,7 +84,10 @@ impl Table {
         let (word, rest) = line.split_once(' ').unwrap_or((line, ""));
         match word {
             "ask" => self.asked = Some(number(rest)?),
-            "rights" => self.draft.rights = number(rest)?,
+            "rights" => {
+                self.draft.rights = number(rest)?;
+                self.draft.carries = vec![0; self.draft.rights as usize];
+            }
             "subjects" => self.kinds(rest, 2)?,
             "objects" => self.kinds(rest, 1)?,
             "kind" => {
@@ -96,13 +100,19 @@ impl Table {
                 for subject in stretch(subjects)? {
                     for object in stretch(objects)? {
                         for right in rights.split_whitespace() {
-                            let right: u8 = number(right)?;
-                            if right > 7 {
-                                return Err(format!("no bit for right {right}"));
-                            }
-                            self.draft.put(subject, object, right);
+                            self.draft.put(subject, object, bit(right)?);
                         }
                     }
+                }
+            }
+            "carries" => {
+                let (right, others) = halves(rest, ":")?;
+                let right: u8 = number(right)?;
+                if usize::from(right) >= self.draft.carries.len() {
+                    return Err(format!("no byte for right {right}"));
+                }
+                for other in others.split_whitespace() {
+                    self.draft.carry(right, bit(other)?);
                 }
             }
             "rule" => {
@@ -120,6 +130,7 @@ impl Table {
                 match what {
                     "kinds" => self.draft.kinds.resize(size, 0),
                     "cells" => self.draft.cells.resize(size, 0),
+                    "carries" => self.draft.carries.resize(size, 0),
                     "file" => self.size = Some(size),
                     _ => return Err(format!("size of what: {what}")),
                 }
@@ -221,6 +232,14 @@ fn number<T: FromStr>(text: &str) -> Result<T, String> {
 
 fn numbers(text: &str) -> Result<Vec<u8>, String> {
     text.split_whitespace().map(number).collect()
+}
+
+/// A right that has a bit in a set of them.
+fn bit(text: &str) -> Result<u8, String> {
+    match number(text)? {
+        right if right < 8 => Ok(right),
+        right => Err(format!("no bit for right {right}")),
+    }
 }
 
 fn name_of(text: &str) -> Result<usize, String> {

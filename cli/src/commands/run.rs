@@ -175,21 +175,20 @@ fn told(came: Came, arguments: &Arguments, view: &View) -> Answer {
                 "DONE"
             };
             let text = format!("{}\n{}", view.style.good(head), told_acts(&content, &done));
-            let acts = done.acts.iter().map(|act| labels::act(words, act));
             json.push(("answer", "done".into()));
-            json.extend(labels::call(words, &house.rules, done.step));
-            json.push(("acts", acts.collect()));
+            json.extend(labels::did(words, &house.rules, &done));
             answer(GOOD, text, json)
         }
     }
 }
 
-/// The rule with its names, and what each of its operations did.
+/// The rule with its names, the carried rights that it went by, and what each of its operations did.
 fn told_acts(content: &Content, done: &Done) -> String {
     let Content { house, words } = content;
     let acts = done.acts.iter().map(|act| story::clause(words, act));
     let call = story::call(words, &house.rules, done.step, Jobs::Told);
-    let lines = [call].into_iter().chain(acts);
+    let grounds = story::carrying(words, done).into_iter();
+    let lines = [call].into_iter().chain(grounds).chain(acts);
     lines.map(|line| format!("  {line}\n")).collect()
 }
 

@@ -16,8 +16,8 @@ pub const COMMAND: Command = Command {
     usage: "FILE|TABLE [--names TABLE]",
     summary: "the table as text, and the matrix as a grid",
     about: "What is printed is a table: made again from it, the file is the same byte for byte. The grid stands in\n\
-            its comments. A file without --names has n0, r0 and rule0 for its names, rights and rules; a name that\n\
-            the table of --names does not have is shown by its number.",
+            its comments, and below it all that rights carry. A file without --names has n0, r0 and rule0 for its\n\
+            names, rights and rules; a name that the table of --names does not have is shown by its number.",
     least: 1,
     most: 1,
     options: &[NAMES],
@@ -41,7 +41,8 @@ fn text(content: &Content, view: &View) -> String {
     // The grid stands behind "# ".
     let columns = view.columns.map(|columns| columns.saturating_sub(2));
     text.push_str(&format!("{mark}\n"));
-    for line in grid::lines(&content.house.matrix, &content.words, columns) {
+    let Content { house, words } = content;
+    for line in grid::whole(&house.matrix, &house.carries, words, columns) {
         text.push_str(format!("{mark} {line}").trim_end());
         text.push('\n');
     }
@@ -56,6 +57,7 @@ fn json(input: &Input, content: &Content) -> Vec<(&'static str, Json)> {
         ("input", input.json()),
         ("answer", "shown".into()),
         ("rights", rights.collect()),
+        ("carries", labels::carries(words, &house.carries)),
         ("names", labels::names(words, &house.matrix)),
         ("cells", labels::cells(words, &house.matrix)),
         ("rules", rules.collect()),

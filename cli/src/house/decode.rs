@@ -1,9 +1,10 @@
 //! What the bytes of an accepted file say. It shares no code with the encoder, whose work it is compared with.
 
+use super::carries::Carries;
 use super::sections::{number, sections};
 use super::{Condition, House, Kind, Matrix, Operation, RightSet, Rule};
 use crate::limits::{
-    CELL_BYTES, CONDITION_BYTES, FIXED_SECTIONS, NAMES, OPERATION_BYTES, RULE_HEAD_BYTES,
+    CONDITION_BYTES, FIXED_SECTIONS, NAMES, OPERATION_BYTES, RULE_HEAD_BYTES, SET_BYTES,
 };
 
 /// The contents of a file that the proved reader accepts.
@@ -11,16 +12,18 @@ pub fn decode(file: &[u8]) -> House {
     let all = sections(file);
     let kinds = &file[all[0].clone()];
     let cells = &file[all[1].clone()];
+    let carries = &file[all[2].clone()];
     let mut matrix = Matrix::empty();
     for (name, &byte) in kinds.iter().enumerate() {
         matrix.kinds[name] = kind(byte);
     }
-    for (place, cell) in cells.chunks(CELL_BYTES).enumerate() {
+    for (place, cell) in cells.chunks(SET_BYTES).enumerate() {
         *matrix.cell_mut(place / NAMES, place % NAMES) = rights(cell);
     }
     let rules = all.into_iter().skip(FIXED_SECTIONS);
     House {
         rights: usize::from(file[0]),
+        carries: Carries::new(carries.chunks(SET_BYTES).map(rights).collect()),
         matrix,
         rules: rules.map(|section| rule(&file[section])).collect(),
     }
@@ -34,10 +37,10 @@ fn kind(byte: u8) -> Kind {
     }
 }
 
-fn rights(cell: &[u8]) -> RightSet {
-    let number = number(cell);
+fn rights(set: &[u8]) -> RightSet {
+    let number = number(set);
     let mut rights = RightSet::default();
-    for right in 0..8 * CELL_BYTES {
+    for right in 0..8 * SET_BYTES {
         if number / (1 << right) % 2 == 1 {
             rights.insert(right);
         }

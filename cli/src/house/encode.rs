@@ -1,10 +1,10 @@
 //! The bytes of a house file.
 
 use super::{Condition, House, Kind, Operation, RightSet, Rule};
-use crate::limits::{CELL_BYTES, HEADER_BYTES, NAMES, PAIR_BYTES};
+use crate::limits::{HEADER_BYTES, NAMES, PAIR_BYTES, SET_BYTES};
 
 pub fn encode(house: &House) -> Vec<u8> {
-    let mut sections = vec![kinds(house), cells(house)];
+    let mut sections = vec![kinds(house), cells(house), carries(house)];
     sections.extend(house.rules.iter().map(rule));
     let mut file = vec![byte(house.rights), byte(sections.len())];
     let mut offset = HEADER_BYTES + PAIR_BYTES * sections.len();
@@ -29,12 +29,17 @@ fn kinds(house: &House) -> Vec<u8> {
 fn cells(house: &House) -> Vec<u8> {
     let pairs = (0..NAMES).flat_map(|s| (0..NAMES).map(move |o| (s, o)));
     pairs
-        .flat_map(|(s, o)| cell(house.matrix.cell(s, o)))
+        .flat_map(|(s, o)| set(house.matrix.cell(s, o)))
         .collect()
 }
 
-fn cell(rights: RightSet) -> Vec<u8> {
-    rights.0.to_le_bytes()[..CELL_BYTES].to_vec()
+fn carries(house: &House) -> Vec<u8> {
+    let sets = house.carries.sets().iter();
+    sets.flat_map(|&rights| set(rights)).collect()
+}
+
+fn set(rights: RightSet) -> Vec<u8> {
+    rights.0.to_le_bytes()[..SET_BYTES].to_vec()
 }
 
 fn rule(rule: &Rule) -> Vec<u8> {

@@ -4,8 +4,8 @@
 use super::sections::number;
 use crate::count::count;
 use crate::limits::{
-    BLANKS, CELLS_BYTES, CELL_BYTES, CONDITIONS, CONDITION_BYTES, FILE_BYTES, FIXED_SECTIONS,
-    HEADER_BYTES, NAMES, OPERATION_BYTES, PAIR_BYTES, RIGHTS, RULES, RULE_HEAD_BYTES, STEPS,
+    BLANKS, CELLS_BYTES, CONDITIONS, CONDITION_BYTES, FILE_BYTES, FIXED_SECTIONS, HEADER_BYTES,
+    NAMES, OPERATION_BYTES, PAIR_BYTES, RIGHTS, RULES, RULE_HEAD_BYTES, SET_BYTES, STEPS,
 };
 use std::ops::Range;
 
@@ -37,9 +37,10 @@ pub fn of_refusal(file: &[u8], refusal: u8) -> Option<Place> {
 pub fn walk(file: &[u8]) -> Result<(), Fault> {
     header(file)?;
     let sections = pairs(file)?;
-    sizes(&sections)?;
+    sizes(file, &sections)?;
     kinds(file, &sections[0])?;
     cells(file, &sections)?;
+    carries(file, &sections[2])?;
     for (rule, section) in sections[FIXED_SECTIONS..].iter().enumerate() {
         Rule {
             file,
@@ -106,6 +107,7 @@ fn section_word(section: usize) -> String {
     match section {
         0 => "kinds".to_string(),
         1 => "cells".to_string(),
+        2 => "carries".to_string(),
         rule => format!("rule {}", rule - FIXED_SECTIONS),
     }
 }
@@ -150,19 +152,23 @@ fn pairs(file: &[u8]) -> Result<Vec<Range<usize>>, Fault> {
     Ok(sections)
 }
 
-fn sizes(sections: &[Range<usize>]) -> Result<(), Fault> {
-    for (section, wanted) in [NAMES, CELLS_BYTES].into_iter().enumerate() {
+fn sizes(file: &[u8], sections: &[Range<usize>]) -> Result<(), Fault> {
+    let rights = usize::from(file[0]);
+    let wanted = [
+        (NAMES, String::new()),
+        (CELLS_BYTES, String::new()),
+        (
+            SET_BYTES * rights,
+            format!(", for {}", count(rights, "right")),
+        ),
+    ];
+    for (section, (wanted, why)) in wanted.into_iter().enumerate() {
         let length = sections[section].len();
         if length != wanted {
             let at = HEADER_BYTES + PAIR_BYTES * section + 2;
             let found = format!("length {length}");
-            return Err(pair_fault(
-                5,
-                section,
-                at,
-                found,
-                format!("length {wanted}"),
-            ));
+            let allowed = format!("length {wanted}{why}");
+            return Err(pair_fault(5, section, at, found, allowed));
         }
     }
     Ok(())
@@ -182,14 +188,10 @@ fn kinds(file: &[u8], section: &Range<usize>) -> Result<(), Fault> {
 fn cells(file: &[u8], sections: &[Range<usize>]) -> Result<(), Fault> {
     let kinds = &file[sections[0].clone()];
     let cells = &file[sections[1].clone()];
-    for (i, cell) in cells.chunks(CELL_BYTES).enumerate() {
+    for (i, cell) in cells.chunks(SET_BYTES).enumerate() {
         let (subject, object) = (i / NAMES, i % NAMES);
         let allowed = if number(cell) >> file[0] != 0 {
-            format!(
-                "rights 0 to {}, that is at most {}",
-                file[0] - 1,
-                (1usize << file[0]) - 1
-            )
+            rights_of(file)
         } else if number(cell) == 0 {
             continue;
         } else if kinds[subject] != 2 {
@@ -200,10 +202,30 @@ fn cells(file: &[u8], sections: &[Range<usize>]) -> Result<(), Fault> {
             continue;
         };
         let found = format!("{} in the cell ({subject}, {object})", number(cell));
-        let at = sections[1].start + CELL_BYTES * i;
+        let at = sections[1].start + SET_BYTES * i;
         return Err(fault(7, "cells", at, found, allowed));
     }
     Ok(())
+}
+
+fn carries(file: &[u8], section: &Range<usize>) -> Result<(), Fault> {
+    let rights = usize::from(file[0]);
+    for (right, set) in file[section.clone()].chunks(SET_BYTES).enumerate() {
+        let set = number(set);
+        let Some(carried) = (rights..8 * SET_BYTES).find(|carried| set >> carried & 1 == 1) else {
+            continue;
+        };
+        let found = format!("{set} for right {right}, which would carry right {carried}");
+        let at = section.start + SET_BYTES * right;
+        return Err(fault(44, "carries", at, found, rights_of(file)));
+    }
+    Ok(())
+}
+
+/// What a set of rights may be.
+fn rights_of(file: &[u8]) -> String {
+    let most = (1usize << file[0]) - 1;
+    format!("rights 0 to {}, that is at most {most}", file[0] - 1)
 }
 
 /// One rule's section.

@@ -27,7 +27,8 @@ pub fn lines(
     match &answered.outcome {
         Outcome::Held(way) => {
             let columns = columns.map(|columns| columns.saturating_sub(MARGIN));
-            let grid = grid::lines(&way.after, &content.words, columns);
+            let carries = &content.house.carries;
+            let grid = grid::whole(&way.after, carries, &content.words, columns);
             let head = held(content, &wanted, way, style);
             together(
                 head.into_iter()

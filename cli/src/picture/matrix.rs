@@ -27,7 +27,7 @@ pub fn matrix(content: &Content, steps: &[Done], aim: &Aim) -> (Canvas, bool) {
     grid(&mut canvas, &layout, &content.words);
     marks(&mut canvas, &layout, aim);
     if steps.len() <= MOST_ARROWS {
-        arrows(&mut canvas, &layout, content, steps);
+        arrows(&mut canvas, &layout, steps);
     }
     for row in &layout.rows {
         for column in &layout.columns {
@@ -132,22 +132,16 @@ fn draw(canvas: &mut Canvas, entry: &Entry, word: &str, wanted: Option<&'static 
 }
 
 /// From what the conditions of a step go by to what the step enters.
-fn arrows(canvas: &mut Canvas, layout: &Layout, content: &Content, steps: &[Done]) {
+fn arrows(canvas: &mut Canvas, layout: &Layout, steps: &[Done]) {
     for (i, done) in steps.iter().enumerate() {
-        let names = done.step.actuals.map(usize::from);
-        let rule = &content.house.rules[usize::from(done.step.rule)];
         let class = if i + 1 == steps.len() { "-bad" } else { "" };
         let entered = done.acts.iter().filter_map(|act| match act {
             Act::Enter { held, .. } => entry(layout, *held).map(|to| (*held, to)),
             _ => None,
         });
         for (held, to) in entered {
-            for condition in &rule.conditions {
-                let from = (
-                    condition.right,
-                    names[condition.subject],
-                    names[condition.object],
-                );
+            for ground in &done.grounds {
+                let from = ground.held();
                 if let Some(source) = entry(layout, from).filter(|_| from != held) {
                     arrow(canvas, source, to, class);
                 }

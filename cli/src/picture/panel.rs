@@ -77,7 +77,7 @@ fn list(canvas: &mut Canvas, content: &Content, leak: &Leak) {
         let y = canvas.height + 8;
         canvas.count(PAD + 10, y - 4, disc(leak, i), i + 1);
         let call = story::call(words, &content.house.rules, done.step, Jobs::LeftOut);
-        let sentence = story::sentence(words, &done.acts);
+        let sentence = story::sentence(words, done);
         canvas.texts(PAD + DISC + 4, y, &[("name", &call), ("", &sentence)]);
         canvas.widen(PAD + DISC + measure(&call, 13) + measure(&sentence, 13));
         canvas.height += LINE;

@@ -6,6 +6,7 @@ use super::registry::{Registry, Sort};
 use super::source::Span;
 use super::syntax::{ConditionWords, Item, RuleSyntax, Statement, StepWords, Verb};
 use super::word::Word;
+use crate::house::carries::Carries;
 use crate::house::{Condition, House, Kind, Matrix, Operation, Rule};
 use crate::limits::{BLANKS, CONDITIONS, NAMES, RIGHTS, RULES, STEPS};
 use crate::words::{RuleWords, Words};
@@ -36,6 +37,7 @@ pub fn resolve(statements: &[Statement]) -> Result<(House, Words), Flaw> {
     let rights = listed(statements, &mut registry, Sort::Right, &RIGHT)?;
     let names = listed(statements, &mut registry, Sort::Name, &NAME)?;
     let rules = listed(statements, &mut registry, Sort::Rule, &RULE)?;
+    let carries = carries(statements, &registry, rights.len())?;
 
     let mut matrix = Matrix::empty();
     let mut name_words = std::array::from_fn(|_| None);
@@ -46,6 +48,7 @@ pub fn resolve(statements: &[Statement]) -> Result<(House, Words), Flaw> {
     let (rules, rule_words) = cells_and_rules(statements, &mut registry, &mut matrix, &rules)?;
     let house = House {
         rights: rights.len(),
+        carries,
         matrix,
         rules,
     };
@@ -108,7 +111,7 @@ fn listed<'a>(
             Statement::Subjects(some) => (Sort::Name, Kind::Subject, some.as_slice()),
             Statement::Objects(some) => (Sort::Name, Kind::Object, some.as_slice()),
             Statement::Rule(rule) => (Sort::Rule, Kind::Absent, std::slice::from_ref(&rule.item)),
-            Statement::Cell { .. } => continue,
+            Statement::Carries { .. } | Statement::Cell { .. } => continue,
         };
         if of == sort {
             items.extend(some);
@@ -124,22 +127,50 @@ fn listed<'a>(
     Ok(listed)
 }
 
+/// What each right carries. One without a line carries nothing.
+fn carries(statements: &[Statement], registry: &Registry, rights: usize) -> Result<Carries, Flaw> {
+    let mut carries = Carries::none(rights);
+    let mut lines: BTreeMap<usize, Span> = BTreeMap::new();
+    for statement in statements {
+        let Statement::Carries { right, carried } = statement else {
+            continue;
+        };
+        let number = registry.find(right, Sort::Right)?;
+        if let Some(earlier) = lines.insert(number, right.span) {
+            return Err(Flaw::new(Code::CarriesTwice, right.span)
+                .found(format!("a second line for what `{}` carries", right.text))
+                .expected("one line for each right")
+                .earlier(earlier, "the first one is there"));
+        }
+        for carried in each_once(registry, carried, "line")? {
+            carries.said_mut(number).insert(carried);
+        }
+    }
+    Ok(carries)
+}
+
+/// The numbers of rights that are listed in a cell or a line.
+fn each_once(registry: &Registry, rights: &[Word], place: &str) -> Result<Vec<usize>, Flaw> {
+    let mut numbers: Vec<usize> = Vec::new();
+    for right in rights {
+        let number = registry.find(right, Sort::Right)?;
+        if numbers.contains(&number) {
+            return Err(Flaw::new(Code::RightTwice, right.span)
+                .found(format!("`{}` a second time in one {place}", right.text))
+                .expected("each right once"));
+        }
+        numbers.push(number);
+    }
+    Ok(numbers)
+}
+
 fn cell(
     registry: &Registry,
     matrix: &mut Matrix,
     (subjects, objects): (&[Word], &[Word]),
     rights: &[Word],
 ) -> Result<(), Flaw> {
-    let mut numbers: Vec<usize> = Vec::new();
-    for right in rights {
-        let number = registry.find(right, Sort::Right)?;
-        if numbers.contains(&number) {
-            return Err(Flaw::new(Code::RightTwice, right.span)
-                .found(format!("`{}` a second time in one cell", right.text))
-                .expected("each right once"));
-        }
-        numbers.push(number);
-    }
+    let numbers = each_once(registry, rights, "cell")?;
     for subject in subjects {
         let row = registry.find(subject, Sort::Name)?;
         if matrix.kinds[row] != Kind::Subject {

@@ -42,7 +42,7 @@ codes! {
     Reserved = "reserved-word", "as a word of yours it stands in quotes";
     Statement = "no-statement", "docs/TABLES.md has every statement";
     Indented = "indented", "only a rule goes on in further lines, and these begin with a space";
-    Order = "order", "a table has first its rights, then its names, then cells and rules";
+    Order = "order", "a table has first its rights, then what they carry, then its names, then cells and rules";
     Syntax = "syntax", "docs/TABLES.md has the form of every statement";
     NoRights = "no-rights", "write a line like: rights own read print";
     UsedTwice = "used-twice", "give one of the two another word";
@@ -60,6 +60,7 @@ codes! {
     NotASubject = "not-a-subject", "a cell is (subject, name): whose right it is comes first";
     CellTwice = "cell-twice", "put all rights of a cell into one line";
     RightTwice = "right-twice", "leave one of the two out";
+    CarriesTwice = "carries-twice", "put all that a right carries into one line";
     BlankTwice = "blank-twice", "give each blank a word of its own; two blanks may get the same name in a run";
     BlankTaken = "blank-taken", "a rule speaks of blanks alone; who fills them is chosen at each run";
 }

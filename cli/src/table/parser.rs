@@ -11,16 +11,18 @@ use super::word::nearest;
 
 pub const VERSION: usize = 1;
 
-/// The order of statements: rights, then names, then cells and rules in any order.
+/// The order of statements: rights, then what they carry, then names, then cells and rules in any order.
 #[derive(Clone, Copy, PartialEq, Eq, PartialOrd, Ord)]
 enum Part {
     Rights,
+    Carries,
     Names,
     CellsAndRules,
 }
 
-const STATEMENTS: [(&str, Part); 5] = [
+const STATEMENTS: [(&str, Part); 6] = [
     ("rights", Part::Rights),
+    ("carries", Part::Carries),
     ("subjects", Part::Names),
     ("objects", Part::Names),
     ("cell", Part::CellsAndRules),
@@ -92,17 +94,15 @@ fn grouped(source: &Source) -> Result<Vec<Vec<Span>>, Flaw> {
 /// Which statement begins here.
 fn begin(source: &Source, lines: &[Span]) -> Result<(&'static str, Part), Flaw> {
     let lexeme = Cursor::new(source, lines).take()?;
-    if let Token::Own(own) = lexeme.token {
-        if let Some(begins) = STATEMENTS.iter().find(|(word, _)| *word == own) {
-            return Ok(*begins);
-        }
-    }
     let text = source.slice(lexeme.span);
+    if let Some(begins) = STATEMENTS.iter().find(|(word, _)| *word == text) {
+        return Ok(*begins);
+    }
     let words = STATEMENTS.iter().map(|(word, _)| *word);
     let hint = nearest(text, words).map(|word| format!("did you mean `{word}`?"));
     let mut flaw = Flaw::new(Code::Statement, lexeme.span)
         .found(format!("no statement begins with `{text}`"))
-        .expected("rights, subjects, objects, cell or rule");
+        .expected("rights, carries, subjects, objects, cell or rule");
     if matches!(
         lexeme.token,
         Token::Own("if" | "and" | "enter" | "delete" | "create" | "destroy")
@@ -121,7 +121,10 @@ fn in_order(part: Part, begins: (&str, Part), first: bool, line: Span) -> Result
     };
     match here {
         _ if first && here != Part::Rights => wrong("`rights` as the first statement"),
-        Part::Rights if part > here => wrong("rights before subjects, objects, cells and rules"),
+        Part::Rights if part > here => {
+            wrong("rights before carries, subjects, objects, cells and rules")
+        }
+        Part::Carries if part > here => wrong("carries before subjects, objects, cells and rules"),
         Part::Names if part > here => wrong("subjects and objects before cells and rules"),
         _ => Ok(()),
     }
@@ -129,9 +132,11 @@ fn in_order(part: Part, begins: (&str, Part), first: bool, line: Span) -> Result
 
 fn statement(source: &Source, lines: &[Span], word: &str) -> Result<Statement, Flaw> {
     let mut cursor = Cursor::new(source, lines);
-    cursor.own(word)?;
+    // The word itself.
+    cursor.take()?;
     let statement = match word {
         "rights" => Statement::Rights(lists::items(&mut cursor, "a right")?),
+        "carries" => carries(&mut cursor)?,
         "subjects" => Statement::Subjects(lists::items(&mut cursor, "a name")?),
         "objects" => Statement::Objects(lists::items(&mut cursor, "a name")?),
         "cell" => cell(&mut cursor)?,
@@ -147,12 +152,27 @@ fn form(word: &str) -> &'static str {
         "rights" | "subjects" | "objects" => {
             "a list is words with spaces between them: rights own read"
         }
+        "carries" => "what a right carries is written so: carries approve: read, print",
         "cell" => "a cell is written so: cell (Ada, vermilion): own read",
         _ => {
             "a rule is written so: rule lend (a, b, f): if own in (a, f) enter read into (b, f); a line that goes on \
              with it begins with a space"
         }
     }
+}
+
+fn carries(cursor: &mut Cursor) -> Result<Statement, Flaw> {
+    let right = cursor.word("a right")?;
+    cursor.mark(':')?;
+    let mut carried = lists::words(cursor, "a right")?;
+    while cursor.passes(&Token::Mark(','))? {
+        carried.extend(lists::words(cursor, "a right")?);
+    }
+    let lexeme = cursor.peek()?;
+    if lexeme.token != Token::End {
+        return Err(cursor.unexpected(&lexeme, "`,` and another right, or the end of the line"));
+    }
+    Ok(Statement::Carries { right, carried })
 }
 
 fn cell(cursor: &mut Cursor) -> Result<Statement, Flaw> {

@@ -69,6 +69,9 @@ fn table_says(statements: &[Statement]) -> BTreeSet<String> {
     for statement in statements {
         match statement {
             Statement::Rights(_) => {}
+            Statement::Carries { right, carried } => {
+                said.extend(carried.iter().map(|one| carries(&right.text, &one.text)));
+            }
             Statement::Subjects(items) => said.extend(kinds(items, &numbers, "subject")),
             Statement::Objects(items) => said.extend(kinds(items, &numbers, "object")),
             Statement::Cell {
@@ -103,6 +106,10 @@ fn cells(subjects: &[Word], objects: &[Word], rights: &[Word]) -> Vec<String> {
         }
     }
     said
+}
+
+fn carries(right: &str, carried: &str) -> String {
+    format!("{right} carries {carried}")
 }
 
 fn cell(subject: &str, object: &str, right: &str) -> String {
@@ -167,6 +174,9 @@ fn file_says(statements: &[Statement], file: &[u8]) -> BTreeSet<String> {
     let mut said = BTreeSet::new();
     for number in 0..house.rights {
         said.insert(format!("right {number} is {}", right(number)));
+        for carried in house.carries.said(number).iter() {
+            said.insert(carries(right(number), right(carried)));
+        }
     }
     for number in house.matrix.names() {
         let kind = match house.matrix.kinds[number] {

@@ -75,6 +75,10 @@ pub struct RuleSyntax {
 #[derive(Clone, Debug)]
 pub enum Statement {
     Rights(Vec<Item>),
+    Carries {
+        right: Word,
+        carried: Vec<Word>,
+    },
     Subjects(Vec<Item>),
     Objects(Vec<Item>),
     Cell {

@@ -5,7 +5,8 @@ use super::source::Span;
 
 pub const MOST_CHARACTERS: usize = 64;
 
-/// The words of the table's own language; in quotes they are words like any other.
+/// The words of the table's own language; in quotes they are words like any other. `carries` is none of them, since
+/// tables from before it was a statement may have it as a word: it begins a line, where no other word can stand.
 pub const OWN: [&str; 17] = [
     "table", "rights", "subjects", "objects", "cell", "rule", "if", "and", "in", "enter", "into",
     "delete", "from", "create", "destroy", "subject", "object",

@@ -14,6 +14,7 @@ pub fn write(house: &House, words: &Words) -> String {
     let mut lines = vec![format!("table {VERSION}")];
     let rights: Vec<String> = words.rights.iter().map(|word| written(word)).collect();
     lines.extend(filled("rights  ", &rights));
+    lines.extend(carries(house, words));
     lines.extend(names(house, words));
     lines.extend(absent(house, words));
     for subject in house.matrix.subjects() {
@@ -30,6 +31,17 @@ pub fn write(house: &House, words: &Words) -> String {
         lines.extend(rule_lines(rule, words_of, words));
     }
     lines.join("\n") + "\n"
+}
+
+/// A line for each right that carries some.
+fn carries(house: &House, words: &Words) -> Vec<String> {
+    let line = |right: usize| {
+        let carried = house.carries.said(right).iter();
+        let carried: Vec<String> = carried.map(|one| words.right(one)).collect();
+        let some = !carried.is_empty();
+        some.then(|| format!("carries  {}: {}", words.right(right), carried.join(", ")))
+    };
+    (0..house.rights).filter_map(line).collect()
 }
 
 /// A name as a table has it: one without a word stands in quotes by its number.

@@ -103,7 +103,7 @@ pub fn steps(content: &Content, steps: &[Done], jobs: Jobs) -> Vec<String> {
             format!(
                 "{number}. {}  {}",
                 padded(&call, margin),
-                story::sentence(words, &done.acts)
+                story::sentence(words, done)
             )
         })
         .collect()

@@ -9,8 +9,8 @@ use native.Mathlib.Decide.{ℕ-discrete}
 use native.Mathlib.Omega.{arith}
 use borrow.Author.Tests.{not-true, not-false}
 use lib.Dec.{T}
-use Rattle.cases.specs.Cases.{pick, iterate, all}
-use Rattle.cases.proofs.Bools.{is-true, holds as test-holds}
+use Rattle.cases.specs.Cases.{pick, iterate, all, any}
+use Rattle.cases.proofs.Bools.{is-true, is-false, holds as test-holds}
 
 left : (n j : ℕ) → j < n → n - j ≡ suc (n - (j + 1))
 left n j h = omega arith
@@ -109,3 +109,66 @@ all-map p q (suc n) j h t = go (p j) (q j) (h j (omega arith) (omega arith)) (al
 -- and at one of them
 pub all-one : (p : ℕ → Bool) (n j : ℕ) → T (all p n j) → (i : ℕ) → j ≤ i → i < j + n → T (p i)
 all-one p n j t i l h = test-holds (p i) (all-at p n j (is-true (all p n j) t) i l h)
+
+-- ---- a test that holds at some of the n numbers
+-- it holds at one of them
+pub any-one : (p : ℕ → Bool) (n j : ℕ) → T (any p n j) → (i : ℕ) × (j ≤ i) × (i < j + n) × T (p i)
+unfolding any
+any-one p zero j t = absurd t
+any-one p (suc n) j t = go (p j) refl (any-one p n (suc j)) t
+  where
+    go : (b : Bool) → p j ≡ b → (T (any p n (suc j)) → (i : ℕ) × (suc j ≤ i) × (i < suc j + n) × T (p i)) → T (pick b true (any p n (suc j)))
+        → (i : ℕ) × (j ≤ i) × (i < j + suc n) × T (p i)
+    go true e ih t = (j, omega arith, omega arith, test-holds (p j) e)
+    go false e ih t = let r = ih t in (r .0, omega (arith, r .1), omega (arith, r .2), r .3)
+
+-- and where it holds at one of them
+pub any-intro : (p : ℕ → Bool) (n j i : ℕ) → j ≤ i → i < j + n → T (p i) → T (any p n j)
+unfolding any
+any-intro p zero j i l h t = absurd (let a : j ≤ i = l in omega arith)
+any-intro p (suc n) j i l h t = go (p j) refl (λ l'. any-intro p n (suc j) i l' (omega arith) t) (ℕ-discrete i j)
+  where
+    go : (b : Bool) → p j ≡ b → (suc j ≤ i → T (any p n (suc j))) → Dec (i ≡ j) → T (pick b true (any p n (suc j)))
+    go true e ih q = tt
+    go false e ih (yes q) = let z : p i ≡ false = rw q e in absurd (rw z at t)
+    go false e ih (no q) = ih (omega arith)
+
+-- the same of the numbers below n
+pub any-below : (p : ℕ → Bool) (n : ℕ) → T (any p n 0) → (i : ℕ) × (i < n) × T (p i)
+any-below p n t = let r = any-one p n 0 t in (r .0, omega (arith, r .2), r .3)
+
+pub below-any : (p : ℕ → Bool) (n i : ℕ) → i < n → T (p i) → T (any p n 0)
+below-any p n i l t = any-intro p n 0 i (omega arith) (omega arith) t
+
+-- where one test implies another at all n numbers
+pub any-map : (p q : ℕ → Bool) (n j : ℕ) → ((i : ℕ) → j ≤ i → i < j + n → T (p i) → T (q i)) → T (any p n j) → T (any q n j)
+any-map p q n j h t = let r = any-one p n j t in any-intro q n j (r .0) (r .1) (r .2) (h (r .0) (r .1) (r .2) (r .3))
+
+-- tests that agree at all n numbers
+pub any-same : (p q : ℕ → Bool) (n j : ℕ) → ((i : ℕ) → j ≤ i → i < j + n → p i ≡ q i) → any p n j ≡ any q n j
+unfolding any
+any-same p q zero j h = refl
+any-same p q (suc n) j h = rw (h j (omega arith) (omega arith), any-same p q n (suc j) (λ i l k. h i (omega arith) (omega arith)))
+
+-- a test that fails at all n numbers
+pub any-none : (p : ℕ → Bool) (n j : ℕ) → ((i : ℕ) → j ≤ i → i < j + n → T (p i) → ⊥) → any p n j ≡ false
+any-none p n j h = is-false (any p n j) (λ t. let r = any-one p n j t in h (r .0) (r .1) (r .2) (r .3))
+
+-- a loop that looks for a number at which the test holds; its test is a callee's answer r
+module _ (p : ℕ → Bool) (n : ℕ) (whole : Bool) where
+  any-unrolled : (j : ℕ) → j < n → any p (n - j) j ≡ pick (p j) true (any p (n - (j + 1)) (j + 1))
+  unfolding any
+  any-unrolled j h = rw (left n j h, add-one j)
+
+  pub any-start : any p n 0 ≡ whole → any p (n - 0) 0 ≡ whole
+  any-start e = rw sub-zero e
+
+  pub any-stop : (j : ℕ) (r : Bool) → r ≡ p j → r ≡ true → j < n → any p (n - j) j ≡ whole → true ≡ whole
+  any-stop j r d t h e = let z : p j ≡ true = sym d ∙ t in sym (any-unrolled j h ∙ rw z) ∙ e
+
+  pub any-more : (j : ℕ) (r : Bool) → r ≡ p j → r ≡ false → j < n → any p (n - j) j ≡ whole → any p (n - (j + 1)) (j + 1) ≡ whole
+  any-more j r d t h e = let z : p j ≡ false = sym d ∙ t in sym (any-unrolled j h ∙ rw z) ∙ e
+
+  pub any-end : (j : ℕ) → n ≤ j → any p (n - j) j ≡ whole → false ≡ whole
+  unfolding any
+  any-end j h e = let z : n - j ≡ 0 = omega arith in rw z at e

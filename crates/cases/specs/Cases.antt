@@ -18,6 +18,11 @@ unfoldable pub all : (ℕ → Bool) → ℕ → ℕ → Bool
 all p zero j = true
 all p (suc n) j = pick (p j) (all p n (suc j)) false
 
+-- a test holds at some of the n numbers from j on
+unfoldable pub any : (ℕ → Bool) → ℕ → ℕ → Bool
+any p zero j = false
+any p (suc n) j = pick (p j) true (any p n (suc j))
+
 -- the values at the n numbers from j on, as a list
 abbrev pub tabulate : {A : Type 0} → (ℕ → A) → ℕ → ℕ → List A
 tabulate f zero j = []

@@ -16,7 +16,7 @@ use Rattle.rights.specs.Rights.{has, insert}
 use Rattle.rights.proofs.Sets.{has-none}
 use Rattle.protection.specs.Limits.{rights, commands}
 use Rattle.masks.specs.Told.{raised}
-use Rattle.masks.proofs.Told.{has-raised, mark-is}
+use Rattle.masks.proofs.Written.{has-raised, mark-is}
 use Rattle.commands.specs.Contents.{missing}
 use Rattle.commands.specs.Fits.{Fits}
 use Rattle.commands.specs.declared.Command.{Command}

@@ -1,5 +1,5 @@
 -- The closing search at one cell: the loop over the commands, on the matrix as it is and on the matrix without the right. Assumes nothing.
-use Prim.Native.Nat.{ℕ, zero, suc, _+_, _-_, _≤_, _<_}
+use Prim.Native.Nat.{ℕ, zero, suc, _+_, _-_, _*_, _≤_, _<_}
 use mathlib.Core.Path.{_≡_, refl, sym, ap, ap₂, _∙_, subst}
 use mathlib.Core.Bool.{Bool, true, false, not, _&&_}
 use mathlib.Core.List.{List, []}
@@ -12,7 +12,7 @@ use borrow.Author.Tests.{lt-ltb, le-ltb, not-true}
 use lib.Dec.{ltb}
 use lib.ListN.{getD, getElem?}
 use Rattle.cases.specs.Cases.{pick, tabulate}
-use Rattle.rights.specs.Rights.{has}
+use Rattle.rights.specs.Rights.{has, delete}
 use Rattle.rights.proofs.Sets.{has-none}
 use Rattle.protection.specs.Limits.{names, rights}
 use Rattle.protection.specs.State.{State}
@@ -22,39 +22,45 @@ use Rattle.protection.specs.Judge.{firstIn, namesAt, choices, operationIn, plac
 use Rattle.matrix.specs.Matrices.{stateOf, deleted}
 use Rattle.matrix.specs.declared.Matrix.{Matrix}
 use Rattle.masks.specs.First.{first}
-use Rattle.masks.specs.Told.{cleared}
+use Rattle.masks.specs.Told.{replaced}
 use Rattle.masks.specs.declared.Tables.{Tables}
 use Rattle.masks.proofs.First.{Least, least}
 use Rattle.search.specs.Narrowing.{Says}
 use Rattle.commands.specs.Contents.{missing, meaning}
 use Rattle.commands.specs.declared.Command.{Command}
 use Rattle.queries.specs.Useful.{doable, namesOfPlace, touchesAt, Tried}
+use Rattle.queries.specs.Sought.{tablesOf, Seen, SeenBySome, FirstTouching}
 use Rattle.queries.proofs.Picking.{first-same, gone-state, gone-seen}
 use Rattle.policy.specs.Contents.{systemOf}
 use Rattle.policy.specs.declared.Policy.{Policy}
 use Rattle.visits.specs.Engine.{commandNumber}
-use Rattle.visits.proofs.Asked.{command-found}
+use Rattle.visits.proofs.Asked.{policy-carried, command-found}
 use Rattle.visits.proofs.Visits.{allowed-is}
 use Rattle.closing.specs.Asks.{AskedBy, LackingAt, leftIn}
-use Rattle.closing.specs.Closing.{foundCall, pairOf, ConcernedBy, Covers, touching, firstTouching, placeTouching, touchingIn, bothAt, Closing}
+use Rattle.closing.specs.Closing.{foundCall, pairOf, ConcernedBy, Covers, touching, firstTouching, placeTouching, touchingIn, TouchingFound, bothAt, Closing}
 use Rattle.closing.specs.declared.Found.{Found}
 use Rattle.closing.specs.declared.Pair.{Pair}
 use Rattle.closing.proofs.PassedBy.{command-tried}
 use Rattle.closing.proofs.Lacking.{left-covers, out-lacks}
 
 -- ---- for `call_of`
-module _ (m : State) (r s o n i : ℕ) (enters : Bool) (C : ModelCommand) (at : ℕ) (found : at ≡ firstIn (touchesAt enters m r s o C n) (placesOf C n) 0) (size : ℕ) (size-is : size ≡ placesOf C n) where
-  here : _≡_ {A = Option Call} (pick (ltb at size) (some (callAt i C n at)) none) (touchingIn enters m r s o n i C)
+module _ (m : Matrix) (t : Tables) (r s o n i : ℕ) (enters : Bool) (C : ModelCommand) (at : ℕ) (found : FirstTouching enters m t r s o C n at) (size : ℕ) (size-is : size ≡ placesOf C n) where
+  here : (S : System) → Seen S m t → _≡_ {A = Option Call} (pick (ltb at size) (some (callAt i C n at)) none) (touchingIn enters S (stateOf m) r s o n i C)
   unfolding touchingIn placeTouching
-  here = ap₂ (λ (a k : ℕ). pick (ltb a k) (some (callAt i C n a)) none) found size-is
+  here S z = ap₂ (λ (a k : ℕ). pick (ltb a k) (some (callAt i C n a)) none) (found .of S z) size-is
 
-  pub call-found : at < size → (a : List ℕ) → a ≡ namesAt (choices C n) at → (x : Found) → x ≡ record { found = true; rule = i; actuals = a } → foundCall x ≡ touchingIn enters m r s o n i C
-  call-found l a d x f =
-      ap foundCall f ∙ ap (λ (l : List ℕ). some (fourOf i l)) d
-      ∙ ap (λ (b : Bool). pick b (some (callAt i C n at)) none) (sym (lt-ltb at size l)) ∙ here
+  pub call-found : at < size → (a : List ℕ) → a ≡ namesAt (choices C n) at → (x : Found) → x ≡ record { found = true; rule = i; actuals = a } → TouchingFound enters m t r s o n i C x
+  call-found l a d x f = record {
+    of = λ S z. ap foundCall f ∙ ap (λ (l : List ℕ). some (fourOf i l)) d ∙ ap (λ (b : Bool). pick b (some (callAt i C n at)) none) (sym (lt-ltb at size l)) ∙ here S z;
+  }
 
-  pub call-missing : size ≤ at → (x : Found) → foundCall x ≡ none → foundCall x ≡ touchingIn enters m r s o n i C
-  call-missing l x f = f ∙ ap (λ (b : Bool). pick b (some (callAt i C n at)) none) (sym (le-ltb at size l)) ∙ here
+  pub call-missing : size ≤ at → (x : Found) → foundCall x ≡ none → TouchingFound enters m t r s o n i C x
+  call-missing l x f = record { of = λ S z. f ∙ ap (λ (b : Bool). pick b (some (callAt i C n at)) none) (sym (le-ltb at size l)) ∙ here S z }
+
+-- ---- for `masks_without`
+pub masks-left : (carried cells row col : List ℕ) (right s o rest : ℕ) → rest ≡ delete (getD cells (names * s + o) 0) right → (x : Tables) → x ≡ replaced carried (tablesOf row col) s o rest
+    → x ≡ replaced carried (tablesOf row col) s o (delete (getD cells (names * s + o) 0) right)
+masks-left carried cells row col right s o rest e x d = d ∙ ap (replaced carried (tablesOf row col) s o) e
 
 -- ---- the loop over the commands
 -- the first of two that is there
@@ -76,10 +82,10 @@ unfolding orElse
 or-found b x y e = rw e
 
 touching-is : (enters : Bool) (S : System) (m : State) (r s o i : ℕ) (C : ModelCommand) → getElem? (S .commands) i ≡ some C → (n q : ℕ)
-    → touchesAt enters m r s o C n q ≡ touching enters S m r s o C (callAt i C n q)
+    → touchesAt enters S m r s o C n q ≡ touching enters S m r s o C (callAt i C n q)
 touching-is enters S m r s o i C found n q = go (pick enters (entersAt r s o (namesOfPlace C n q) (operationIn C)) (deletesAt r s o (namesOfPlace C n q) (operationIn C)))
   where
-    go : (b : Bool) → _≡_ {A = Bool} (elim b [ true ↦ doable C m (namesOfPlace C n q) | false ↦ false ]) (elim b [ true ↦ allowed S m (callAt i C n q) | false ↦ false ])
+    go : (b : Bool) → _≡_ {A = Bool} (elim b [ true ↦ doable S C m (namesOfPlace C n q) | false ↦ false ]) (elim b [ true ↦ allowed S m (callAt i C n q) | false ↦ false ])
     go true = sym (allowed-is S i C found m n q)
     go false = refl
 
@@ -96,7 +102,7 @@ module _ (p : Policy) (m : State) (n r s o : ℕ) (enters : Bool) where
 
   -- what is found in command i
   abbrev found : ℕ → Option Call
-  found i = touchingIn enters m r s o n i (commandNumber p i)
+  found i = touchingIn enters S m r s o n i (commandNumber p i)
 
   from-start : from 0 ≡ firstTouching enters S m r s o n
   unfolding from firstTouching
@@ -122,13 +128,13 @@ module _ (p : Policy) (m : State) (n r s o : ℕ) (enters : Bool) where
       at = firstIn (λ q. P C (callAt i C n q)) (placesOf C n) 0
 
       place : ℕ
-      place = firstIn (touchesAt enters m r s o C n) (placesOf C n) 0
+      place = firstIn (touchesAt enters S m r s o C n) (placesOf C n) 0
 
       later : Option Call
       later = firstCall P n (i + 1) (tabulate (commandNumber p) (p .commands - (i + 1)) (i + 1))
 
       at-is : place ≡ at
-      at-is = first-same (touchesAt enters m r s o C n) (λ q. P C (callAt i C n q)) (touching-is enters S m r s o i C (command-found p i l) n) (placesOf C n) 0
+      at-is = first-same (touchesAt enters S m r s o C n) (λ q. P C (callAt i C n q)) (touching-is enters S m r s o i C (command-found p i l) n) (placesOf C n) 0
 
   from-next : (i : ℕ) → (i < p .commands → found i ≡ none) → from i ≡ from (i + 1)
   from-next i h = go (decLt i (p .commands))
@@ -175,6 +181,9 @@ module _ (p : Policy) (m : Matrix) (t : Tables) (n r s o : ℕ) (enters : Bool) 
       record { asked = K; by = W; number = e; most = j .0; rest = sym (j .2) ∙ from-start p (stateOf m) n r s o enters }
 
   module _ (which count i : ℕ) (K : Looking which count i) where
+    pub looking-seen : SeenBySome m t
+    looking-seen = record { system = systemOf p; seen = K .asked .closable .seen }
+
     pub looking-right : r < rights
     looking-right = omega (arith, K .asked .closable .right, K .asked .closable .fits .few-rights)
 
@@ -194,9 +203,9 @@ module _ (p : Policy) (m : Matrix) (t : Tables) (n r s o : ℕ) (enters : Bool) 
         pub looking-tried : Tried c n
         looking-tried = command-tried p (K .asked .closable .fits) (K .asked .closable .single) n (K .asked .name) i (rw (K .number) at l) c e
 
-        module _ (x : Found) (d : foundCall x ≡ touchingIn enters (stateOf m) r s o n i (meaning c)) where
+        module _ (x : Found) (d : TouchingFound enters m t r s o n i (meaning c) x) where
           this : foundCall x ≡ found p (stateOf m) n r s o enters i
-          this = d ∙ ap (λ (w : Command). touchingIn enters (stateOf m) r s o n i (meaning w)) e
+          this = d .of (systemOf p) (K .asked .closable .seen) ∙ ap (λ (w : Command). touchingIn enters (systemOf p) (stateOf m) r s o n i (meaning w)) e
 
           onward : from p (stateOf m) n r s o enters i ≡ orElse (foundCall x) (from p (stateOf m) n r s o enters (i + 1))
           onward = from-more p (stateOf m) n r s o enters i (rw (K .number) at l) ∙ ap (λ (w : Option Call). orElse w (from p (stateOf m) n r s o enters (i + 1))) (sym this)
@@ -226,13 +235,16 @@ module _ (p : Policy) (m : Matrix) (t : Tables) (n r s o : ℕ) (K : Closing p r
   cell-right = omega (arith, K .closable .right, K .closable .fits .few-rights)
 
   -- on the matrix without the right
-  module _ (gone : Matrix) (g : gone ≡ deleted m r s o) (without : Tables) (w : without ≡ cleared t r s o) where
+  module _ (gone : Matrix) (g : gone ≡ deleted m r s o) (without : Tables) (w : without ≡ replaced (p .carried) t s o (delete (getD (m .cells) (names * s + o) 0) r)) where
+    lost : stateOf gone ≡ takeOut (stateOf m) r s o
+    lost = gone-state (systemOf p) (p .carried) (policy-carried p (K .closable .fits)) m t (K .closable .seen) r s o cell-right (K .row) (K .column) gone g
+
     pub closing-gone : Closing p r n s o gone without
     closing-gone = record {
       closable = record {
         fits = K .closable .fits;
         single = K .closable .single;
-        seen = gone-seen m t (K .closable .seen) r s o cell-right (K .row) (K .column) gone g without w;
+        seen = gone-seen (systemOf p) (p .carried) (policy-carried p (K .closable .fits)) m t (K .closable .seen) r s o cell-right (K .row) (K .column) gone g without w;
         right = K .closable .right;
       };
       name = K .name;
@@ -241,18 +253,18 @@ module _ (p : Policy) (m : Matrix) (t : Tables) (n r s o : ℕ) (K : Closing p r
     }
 
     pub covers-gone : (which : ℕ) → Covers p true (takeOut (stateOf m) r s o) r s o n which → Covers p true (stateOf gone) r s o n which
-    covers-gone which W = subst (λ (z : State). Covers p true z r s o n which) (sym (gone-state m t (K .closable .seen) r s o cell-right (K .row) (K .column) gone g)) W
+    covers-gone which W = subst (λ (z : State). Covers p true z r s o n which) (sym lost) W
 
     pub returned-gone : (x : Found) → foundCall x ≡ firstTouching true (systemOf p) (stateOf gone) r s o n → foundCall x ≡ firstTouching true (systemOf p) (takeOut (stateOf m) r s o) r s o n
-    returned-gone x e = e ∙ ap (λ (z : State). firstTouching true (systemOf p) z r s o n) (gone-state m t (K .closable .seen) r s o cell-right (K .row) (K .column) gone g)
+    returned-gone x e = e ∙ ap (λ (z : State). firstTouching true (systemOf p) z r s o n) lost
 
   -- the commands that may have a call at the cell
-  module _ (asks : List ℕ) (A : AskedBy p asks) (lacking : ℕ) (L : LackingAt asks (m .cells) s o lacking) (which left : ℕ) (E : Says left (leftIn which lacking)) where
+  module _ (asks : List ℕ) (A : AskedBy p asks) (lacking : ℕ) (L : LackingAt asks (p .carriers) (m .cells) s o lacking) (which left : ℕ) (E : Says left (leftIn which lacking)) where
     pub covers-taken : ConcernedBy p false r which → Covers p false (stateOf m) r s o n left
     covers-taken W = left-covers p (K .closable .fits) (K .closable .single) n (K .name) m (stateOf m) (λ u v q e. e) s o asks A lacking L false r which left W E
 
     pub covers-returned : ConcernedBy p true r which → Covers p true (takeOut (stateOf m) r s o) r s o n left
-    covers-returned W = left-covers p (K .closable .fits) (K .closable .single) n (K .name) m (takeOut (stateOf m) r s o) (λ u v q e. out-lacks (stateOf m) r s o u v q e) s o asks A lacking L true r which left W E
+    covers-returned W = left-covers p (K .closable .fits) (K .closable .single) n (K .name) m (takeOut (stateOf m) r s o) (λ u v q e. out-lacks (systemOf p) (stateOf m) r s o u v q e) s o asks A lacking L true r which left W E
 
     pub cell-unreturned : ConcernedBy p true r which → left ≡ 0 → (z : Pair) → pairOf z ≡ [] → pairOf z ≡ bothAt (systemOf p) r n (stateOf m) s o
     unfolding bothAt firstTouching

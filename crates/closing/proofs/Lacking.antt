@@ -1,4 +1,4 @@
--- A command that asks in a cell of its operation's own names for a right that the cell lacks has no call there. Assumes nothing.
+-- A command that asks in a cell of its operation's own names for a right that the cell does not meet has no call there. Assumes nothing.
 use Prim.Native.Nat.{ℕ, _+_, _-_, _*_, _/_, _%_, _^_, _≤_, _<_}
 use mathlib.Core.Path.{_≡_, refl, sym, ap, ap₂, _∙_, subst}
 use mathlib.Core.Bool.{Bool, true, false, not, _&&_, _||_}
@@ -6,18 +6,20 @@ use mathlib.Core.List.{List}
 use mathlib.Core.Logic.{_⊎_, inl, inr, ⊎-elim}
 use mathlib.Core.Option.{none}
 use native.Mathlib.Omega.{arith}
-use borrow.Author.Tests.{not-true}
 use lib.Bits.{bitOr, bitAnd}
 use lib.Dec.{T, eqb, eqb→eq, ltb}
 use lib.ListN.{getD}
 use Rattle.cases.specs.Cases.{pick, all}
-use Rattle.cases.proofs.Bools.{and-left, and-right, or-cases, holds, is-true, is-false}
+use Rattle.cases.proofs.Bools.{and-left, and-right, or-cases, holds, fails, is-true, is-false}
 use Rattle.cases.proofs.Loops.{all-at}
 use Rattle.rights.specs.Rights.{has}
 use Rattle.rights.proofs.Sets.{has-none}
 use Rattle.protection.specs.Limits.{names, rights}
 use Rattle.protection.specs.State.{State, subjectIn, objectIn}
-use Rattle.protection.specs.Command.{Operation as ModelOperation, Actuals}
+use Rattle.protection.specs.Command.{Operation as ModelOperation, System, Actuals}
+use Rattle.protection.specs.Carrying.{meets}
+use Rattle.protection.proofs.Carrying.{meets-more}
+use Rattle.carries.proofs.Meeting.{meets-cell}
 use Rattle.protection.specs.Execution.{takeOut, sameCell, holdAll, holds as conditionHolds}
 use Rattle.protection.specs.Judge.{deletesAt, entersAt}
 use Rattle.matrix.specs.Bytes.{inside}
@@ -34,6 +36,7 @@ use Rattle.commands.specs.declared.StepRead.the-variants.{Enter, Delete, Create
 use Rattle.queries.specs.Useful.{doable, namesOfPlace, Tried}
 use Rattle.queries.proofs.Goodness.{doable-holds, hold-all}
 use Rattle.queries.proofs.Shapes.{operation-is}
+use Rattle.policy.specs.Contents.{systemOf}
 use Rattle.policy.specs.Fits.{PolicyFits}
 use Rattle.policy.specs.declared.Policy.{Policy}
 use Rattle.visits.specs.Engine.{SingleSteps}
@@ -50,25 +53,25 @@ clash : (b : Bool) → b ≡ false → b ≡ true → ⊥
 clash b x y = let z : _≡_ {A = Bool} true false = cc in let w : _≡_ {A = ℕ} 0 1 = cc in omega arith
 
 -- ---- the loop of `lacking_in`
-module _ (asks : List ℕ) (k set : ℕ) where
-  pub lacking-start : LackingIn asks k set 0
+module _ (asks carriers : List ℕ) (k set : ℕ) where
+  pub lacking-start : LackingIn asks carriers k set 0
   lacking-start = record { says = λ i t. absurd (clash (has 0 i) (has-none i) t) }
 
-  module _ (mask q : ℕ) (K : LackingIn asks k set mask) (l : q < 8) (b : Bool) (d : b ≡ has set q) where
-    pub lacking-more : not b ≡ true → (new : ℕ) → new ≡ bitOr mask (getD asks (8 * k + q) 0) → LackingIn asks k set new
+  module _ (mask q : ℕ) (K : LackingIn asks carriers k set mask) (l : q < 8) where
+    pub lacking-more : bitAnd set (getD carriers q 0) ≡ 0 → (new : ℕ) → new ≡ bitOr mask (getD asks (8 * k + q) 0) → LackingIn asks carriers k set new
     lacking-more e new f = record {
       says = λ (i : ℕ) (t : has new i ≡ true). ⊎-elim (K .says i)
-          (λ (u : has (getD asks (8 * k + q) 0) i ≡ true). record { right = q; small = l; lacks = sym d ∙ not-true b e; asked = u })
+          (λ (u : has (getD asks (8 * k + q) 0) i ≡ true). record { right = q; small = l; lacks = e; asked = u })
           (or-has mask (getD asks (8 * k + q) 0) i (ap (λ (w : ℕ). has w i) (sym f) ∙ t));
     }
 
-    pub lacking-same : not b ≡ false → (new : ℕ) → new ≡ mask → LackingIn asks k set new
-    lacking-same e new f = subst (LackingIn asks k set) (sym f) K
+    pub lacking-same : (bitAnd set (getD carriers q 0) ≡ 0 → ⊥) → (new : ℕ) → new ≡ mask → LackingIn asks carriers k set new
+    lacking-same e new f = subst (LackingIn asks carriers k set) (sym f) K
 
 -- ---- the four cells
-pub lacking-four : (asks cells : List ℕ) (s o a b c d : ℕ) → LackingIn asks 0 (getD cells (32 * s + s) 0) a → LackingIn asks 1 (getD cells (32 * s + o) 0) b
-    → LackingIn asks 2 (getD cells (32 * o + s) 0) c → LackingIn asks 3 (getD cells (32 * o + o) 0) d → LackingAt asks cells s o (bitOr (bitOr a b) (bitOr c d))
-lacking-four asks cells s o a b c d A B C D = record {
+pub lacking-four : (asks carriers cells : List ℕ) (s o a b c d : ℕ) → LackingIn asks carriers 0 (getD cells (32 * s + s) 0) a → LackingIn asks carriers 1 (getD cells (32 * s + o) 0) b
+    → LackingIn asks carriers 2 (getD cells (32 * o + s) 0) c → LackingIn asks carriers 3 (getD cells (32 * o + o) 0) d → LackingAt asks carriers cells s o (bitOr (bitOr a b) (bitOr c d))
+lacking-four asks carriers cells s o a b c d A B C D = record {
   says = λ (i : ℕ) (t : has (bitOr (bitOr a b) (bitOr c d)) i ≡ true).
       ⊎-elim
       (λ (u : has (bitOr a b) i ≡ true). ⊎-elim (λ (v : has a i ≡ true). record { cell = 0; few = omega arith; lacks = A .says i v }) (λ (v : has b i ≡ true). record { cell = 1; few = omega arith; lacks = B .says i v }) (or-has a b i u))
@@ -80,20 +83,27 @@ pub left-says : (which lacking : ℕ) → lacking < 2 ^ 32 → Says (bitAnd whic
 unfolding leftIn
 left-says which lacking l = record { says = λ n h. has-and which ((2 ^ 32 - 1) - lacking) n ∙ ap (λ (b : Bool). has which n && b) (has-not 32 lacking n l h) }
 
--- ---- what lacks a right stays without it
-out-false : (b : Bool) → b && false ≡ false
-out-false true = refl
-out-false false = refl
+-- ---- what does not meet a right does not meet it with fewer rights
+fewer-meet : (S : System) (f f' : ℕ → Bool) → ((i : ℕ) → T (f' i) → T (f i)) → (q : ℕ) → meets S f q ≡ false → meets S f' q ≡ false
+fewer-meet S f f' h q e = is-false (meets S f' q) (λ t. fails (meets S f q) e (meets-more S f' f h q t))
 
-pub out-lacks : (m : State) (r s o u v q : ℕ) → m .cell u v q ≡ false → takeOut m r s o .cell u v q ≡ false
-out-lacks m r s o u v q e = ap (λ (b : Bool). not (sameCell u v s o && eqb q r) && b) e ∙ out-false (not (sameCell u v s o && eqb q r))
+pub out-lacks : (S : System) (m : State) (r s o u v q : ℕ) → meets S (m .cell u v) q ≡ false → meets S (takeOut m r s o .cell u v) q ≡ false
+out-lacks S m r s o u v q e = fewer-meet S (m .cell u v) (takeOut m r s o .cell u v) (λ i t. and-right (not (sameCell u v s o && eqb i r)) (m .cell u v i) t) q e
 
-cell-lacks : (m : Matrix) (u v q : ℕ) → has (getD (m .cells) (names * u + v) 0) q ≡ false → stateOf m .cell u v q ≡ false
-cell-lacks m u v q e = go (inside (m .kinds) u v)
+-- a right in a cell of the state is one of the cell's byte
+in-byte : (m : Matrix) (u v i : ℕ) → T (stateOf m .cell u v i) → T (has (getD (m .cells) (names * u + v) 0) i)
+in-byte m u v i = go (inside (m .kinds) u v)
   where
-    go : (b : Bool) → _≡_ {A = Bool} (elim b [ true ↦ has (getD (m .cells) (names * u + v) 0) q | false ↦ false ]) false
-    go true = e
-    go false = refl
+    go : (b : Bool) → T (elim b [ true ↦ has (getD (m .cells) (names * u + v) 0) i | false ↦ false ]) → T (has (getD (m .cells) (names * u + v) 0) i)
+    go true t = t
+    go false t = absurd t
+
+cell-lacks : (p : Policy) → PolicyFits p → (m : Matrix) (u v q : ℕ) → q < rights → bitAnd (getD (m .cells) (names * u + v) 0) (getD (p .carriers) q 0) ≡ 0
+    → meets (systemOf p) (stateOf m .cell u v) q ≡ false
+cell-lacks p F m u v q l e =
+    let set : ℕ = getD (m .cells) (names * u + v) 0 in
+    fewer-meet (systemOf p) (has set) (stateOf m .cell u v) (in-byte m u v) q
+    (meets-cell (systemOf p) (p .carries) refl (F .few-rights) set q l ∙ ap (λ (y : ℕ). not (eqb y 0)) (ap (λ (z : List ℕ). bitAnd set (getD z q 0)) (sym (F .carriers-is)) ∙ e))
 
 -- ---- one command
 on-sides : (f : ℕ → ℕ) (a x y : ℕ) → f (onSide a x y) ≡ onSide a (f x) (f y)
@@ -103,20 +113,20 @@ on-sides f a x y = go (eqb a 0)
     go true = refl
     go false = refl
 
--- with an asked right missing the command cannot be carried out
-unheld : (c : Command) (m : State) (a : Actuals) (k q : ℕ) → Asks c k q
-    → m .cell (onSide (k / 2) (a (firstOf c)) (a (secondOf c))) (onSide (k % 2) (a (firstOf c)) (a (secondOf c))) q ≡ false → doable (meaning c) m a ≡ false
-unheld c m a k q A e = is-false (doable (meaning c) m a) (λ t.
+-- where an asked right is not met the command cannot be carried out
+unheld : (c : Command) (S : System) (m : State) (a : Actuals) (k q : ℕ) → Asks c k q
+    → meets S (m .cell (onSide (k / 2) (a (firstOf c)) (a (secondOf c))) (onSide (k % 2) (a (firstOf c)) (a (secondOf c)))) q ≡ false → doable S (meaning c) m a ≡ false
+unheld c S m a k q A e = is-false (doable S (meaning c) m a) (λ t.
     let j = A .at in
-    let whole : all (λ i. conditionHolds m a (conditionOf c i)) (c .conditions) 0 ≡ true =
-    sym (hold-all m a (conditionOf c) (c .conditions) 0) ∙ is-true (holdAll m a (meaning c .conditions)) (doable-holds (meaning c) m a t) in
-    let h : conditionHolds m a (conditionOf c j) ≡ true = all-at (λ i. conditionHolds m a (conditionOf c i)) (c .conditions) 0 whole j (omega arith) (omega (arith, A .inside)) in
-    let held : T (m .cell (a (conditionOf c j .subject)) (a (conditionOf c j .object)) (conditionOf c j .right)) =
-    and-right (subjectIn m (a (conditionOf c j .subject)) && objectIn m (a (conditionOf c j .object))) (m .cell (a (conditionOf c j .subject)) (a (conditionOf c j .object)) (conditionOf c j .right)) (holds (conditionHolds m a (conditionOf c j)) h) in
-    let gone : m .cell (a (conditionOf c j .subject)) (a (conditionOf c j .object)) (conditionOf c j .right) ≡ false =
-    ap₂ (λ (u v : ℕ). m .cell (a u) (a v) (conditionOf c j .right)) (A .subject-is) (A .object-is)
-    ∙ ap (λ (w : ℕ). m .cell (a (onSide (k / 2) (firstOf c) (secondOf c))) (a (onSide (k % 2) (firstOf c) (secondOf c))) w) (A .right-is)
-    ∙ ap₂ (λ (u v : ℕ). m .cell u v q) (on-sides a (k / 2) (firstOf c) (secondOf c)) (on-sides a (k % 2) (firstOf c) (secondOf c)) ∙ e in
+    let whole : all (λ i. conditionHolds S m a (conditionOf c i)) (c .conditions) 0 ≡ true =
+    sym (hold-all S m a (conditionOf c) (c .conditions) 0) ∙ is-true (holdAll S m a (meaning c .conditions)) (doable-holds S (meaning c) m a t) in
+    let h : conditionHolds S m a (conditionOf c j) ≡ true = all-at (λ i. conditionHolds S m a (conditionOf c i)) (c .conditions) 0 whole j (omega arith) (omega (arith, A .inside)) in
+    let held : T (meets S (m .cell (a (conditionOf c j .subject)) (a (conditionOf c j .object))) (conditionOf c j .right)) =
+    and-right (subjectIn m (a (conditionOf c j .subject)) && objectIn m (a (conditionOf c j .object))) (meets S (m .cell (a (conditionOf c j .subject)) (a (conditionOf c j .object))) (conditionOf c j .right)) (holds (conditionHolds S m a (conditionOf c j)) h) in
+    let gone : meets S (m .cell (a (conditionOf c j .subject)) (a (conditionOf c j .object))) (conditionOf c j .right) ≡ false =
+    ap₂ (λ (u v : ℕ). meets S (m .cell (a u) (a v)) (conditionOf c j .right)) (A .subject-is) (A .object-is)
+    ∙ ap (λ (w : ℕ). meets S (m .cell (a (onSide (k / 2) (firstOf c) (secondOf c))) (a (onSide (k % 2) (firstOf c) (secondOf c)))) w) (A .right-is)
+    ∙ ap₂ (λ (u v : ℕ). meets S (m .cell u v) q) (on-sides a (k / 2) (firstOf c) (secondOf c)) (on-sides a (k % 2) (firstOf c) (secondOf c)) ∙ e in
     subst T gone held)
 
 -- on the cell (s, o) its operation's parameters have these names
@@ -168,21 +178,22 @@ on-cell b r s o c a =
     go b false false false false false true t false = none b Refused (λ t. t) (λ t. t)
     go b false false false false false false t u = none b Refused (λ t. t) (λ t. t)
 
-asked-lacks : (b : Bool) (m : State) (r s o n i : ℕ) (c : Command) → Tried c n → (k q : ℕ) → Asks c k q → m .cell (onSide (k / 2) s o) (onSide (k % 2) s o) q ≡ false
-    → touchingIn b m r s o n i (meaning c) ≡ none
-asked-lacks b m r s o n i c H k q A e = never-touching b m r s o n i (meaning c) (λ p.
+asked-lacks : (b : Bool) (S : System) (m : State) (r s o n i : ℕ) (c : Command) → Tried c n → (k q : ℕ) → Asks c k q → meets S (m .cell (onSide (k / 2) s o) (onSide (k % 2) s o)) q ≡ false
+    → touchingIn b S m r s o n i (meaning c) ≡ none
+asked-lacks b S m r s o n i c H k q A e = never-touching b S m r s o n i (meaning c) (λ p.
     let a = namesOfPlace (meaning c) n p in
-    ap (λ (w : ModelOperation). elim (pick b (entersAt r s o a w) (deletesAt r s o a w)) [ true ↦ doable (meaning c) m a | false ↦ false ]) (operation-is c n H)
+    ap (λ (w : ModelOperation). elim (pick b (entersAt r s o a w) (deletesAt r s o a w)) [ true ↦ doable S (meaning c) m a | false ↦ false ]) (operation-is c n H)
     ∙ go a (pick b (entersAt r s o a (modelBy (operationAt c 0))) (deletesAt r s o a (modelBy (operationAt c 0)))) (on-cell b r s o c a))
   where
-    go : (a : Actuals) (u : Bool) → (T u → (a (firstOf c) ≡ s) × (a (secondOf c) ≡ o)) → _≡_ {A = Bool} (elim u [ true ↦ doable (meaning c) m a | false ↦ false ]) false
-    go a true f = unheld c m a k q A (ap₂ (λ (u v : ℕ). m .cell (onSide (k / 2) u v) (onSide (k % 2) u v) q) (f tt .0) (f tt .1) ∙ e)
+    go : (a : Actuals) (u : Bool) → (T u → (a (firstOf c) ≡ s) × (a (secondOf c) ≡ o)) → _≡_ {A = Bool} (elim u [ true ↦ doable S (meaning c) m a | false ↦ false ]) false
+    go a true f = unheld c S m a k q A (ap₂ (λ (u v : ℕ). meets S (m .cell (onSide (k / 2) u v) (onSide (k % 2) u v)) q) (f tt .0) (f tt .1) ∙ e)
     go a false f = refl
 
 -- ---- the commands that are left: st is m, or m without some rights
-module _ (p : Policy) (F : PolicyFits p) (single : SingleSteps p) (n : ℕ) (small : n ≤ names) (m : Matrix) (st : State) (less : (u v q : ℕ) → stateOf m .cell u v q ≡ false → st .cell u v q ≡ false)
-    (s o : ℕ) (asks : List ℕ) (A : AskedBy p asks) (lacking : ℕ) (L : LackingAt asks (m .cells) s o lacking) where
-  lacks-none : (b : Bool) (r i : ℕ) → i < p .commands → has lacking i ≡ true → touchingIn b st r s o n i (meaning (getD (p .command) i missing)) ≡ none
+module _ (p : Policy) (F : PolicyFits p) (single : SingleSteps p) (n : ℕ) (small : n ≤ names) (m : Matrix) (st : State)
+    (less : (u v q : ℕ) → meets (systemOf p) (stateOf m .cell u v) q ≡ false → meets (systemOf p) (st .cell u v) q ≡ false) (s o : ℕ) (asks : List ℕ) (A : AskedBy p asks) (lacking : ℕ)
+    (L : LackingAt asks (p .carriers) (m .cells) s o lacking) where
+  lacks-none : (b : Bool) (r i : ℕ) → i < p .commands → has lacking i ≡ true → touchingIn b (systemOf p) st r s o n i (meaning (getD (p .command) i missing)) ≡ none
   lacks-none b r i l t =
       let X = L .says i t in
       let k = X .cell in
@@ -191,9 +202,9 @@ module _ (p : Policy) (F : PolicyFits p) (single : SingleSteps p) (n : ℕ) (sma
       let lq : q < rights = X .lacks .small in
       let zk : (rights * k + q) / rights ≡ k = omega arith in
       let zq : (rights * k + q) % rights ≡ q = omega arith in
-      asked-lacks b st r s o n i (getD (p .command) i missing) (command-tried p F single n small i l (getD (p .command) i missing) refl) k q
+      asked-lacks b (systemOf p) st r s o n i (getD (p .command) i missing) (command-tried p F single n small i l (getD (p .command) i missing) refl) k q
       (subst (λ (z : ℕ). Asks (getD (p .command) i missing) k z) zq (subst (λ (z : ℕ). Asks (getD (p .command) i missing) z ((rights * k + q) % rights)) zk (A .says (rights * k + q) i (omega arith) (X .lacks .asked))))
-      (less (onSide (k / 2) s o) (onSide (k % 2) s o) q (cell-lacks m (onSide (k / 2) s o) (onSide (k % 2) s o) q (X .lacks .lacks)))
+      (less (onSide (k / 2) s o) (onSide (k % 2) s o) q (cell-lacks p F m (onSide (k / 2) s o) (onSide (k % 2) s o) q lq (X .lacks .lacks)))
 
   pub left-covers : (b : Bool) (r which left : ℕ) → ConcernedBy p b r which → Says left (leftIn which lacking) → Covers p b st r s o n left
   unfolding leftIn
@@ -201,7 +212,7 @@ module _ (p : Policy) (F : PolicyFits p) (single : SingleSteps p) (n : ℕ) (sma
     none-else = λ (i : ℕ) (l : i < p .commands) (e : has left i ≡ false). go i l (has which i) (has lacking i) refl refl (sym (E .says i (omega (arith, F .few-commands))) ∙ e);
   }
     where
-      go : (i : ℕ) → i < p .commands → (u v : Bool) → has which i ≡ u → has lacking i ≡ v → u && not v ≡ false → touchingIn b st r s o n i (meaning (getD (p .command) i missing)) ≡ none
+      go : (i : ℕ) → i < p .commands → (u v : Bool) → has which i ≡ u → has lacking i ≡ v → u && not v ≡ false → touchingIn b (systemOf p) st r s o n i (meaning (getD (p .command) i missing)) ≡ none
       go i l false v f g e = concerned-covers p F single b st r s o n small which W .none-else i l f
       go i l true true f g e = lacks-none b r i l g
       go i l true false f g e = absurd (clash true e refl)

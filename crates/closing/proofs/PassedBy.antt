@@ -12,7 +12,7 @@ use Rattle.cases.specs.Cases.{pick}
 use Rattle.rights.specs.Rights.{has}
 use Rattle.protection.specs.Limits.{names, rights}
 use Rattle.protection.specs.State.{State}
-use Rattle.protection.specs.Command.{Operation as ModelOperation, Command as ModelCommand, Actuals}
+use Rattle.protection.specs.Command.{Operation as ModelOperation, Command as ModelCommand, System, Actuals}
 use Rattle.protection.specs.Judge.{firstIn, placesOf, callAt, deletesAt, entersAt}
 use Rattle.commands.specs.Contents.{missing, operationAt, stepOf, meaning}
 use Rattle.commands.specs.Fits.{Fits}
@@ -26,6 +26,7 @@ use Rattle.queries.specs.Useful.{doable, namesOfPlace, touchesAt, Tried}
 use Rattle.queries.proofs.Shapes.{operation-is}
 use Rattle.queries.proofs.Closing.{none-at-all}
 use Rattle.queries.proofs.NameMasks.{Filled, filled-start, filled-more, marked-yes, marked-no}
+use Rattle.policy.specs.Contents.{systemOf}
 use Rattle.policy.specs.Fits.{PolicyFits}
 use Rattle.policy.specs.declared.Policy.{Policy}
 use Rattle.visits.specs.Engine.{SingleSteps}
@@ -101,21 +102,21 @@ untouched true r s o Refused e a = refl
 untouched false r s o Refused e a = refl
 
 -- where no place qualifies, there is no call
-pub never-touching : (b : Bool) (m : State) (r s o n i : ℕ) (C : ModelCommand) → ((p : ℕ) → touchesAt b m r s o C n p ≡ false) → touchingIn b m r s o n i C ≡ none
+pub never-touching : (b : Bool) (S : System) (m : State) (r s o n i : ℕ) (C : ModelCommand) → ((p : ℕ) → touchesAt b S m r s o C n p ≡ false) → touchingIn b S m r s o n i C ≡ none
 unfolding touchingIn placeTouching
-never-touching b m r s o n i C never =
-    ap (λ (u : Bool). pick u (some (callAt i C n (firstIn (touchesAt b m r s o C n) (placesOf C n) 0))) none)
-    (ap (λ (k : ℕ). ltb k (placesOf C n)) (sym (none-at-all (touchesAt b m r s o C n) never (placesOf C n) (placesOf C n) refl))
+never-touching b S m r s o n i C never =
+    ap (λ (u : Bool). pick u (some (callAt i C n (firstIn (touchesAt b S m r s o C n) (placesOf C n) 0))) none)
+    (ap (λ (k : ℕ). ltb k (placesOf C n)) (sym (none-at-all (touchesAt b S m r s o C n) never (placesOf C n) (placesOf C n) refl))
     ∙ le-ltb (placesOf C n) (placesOf C n) (omega arith))
 
-pub nothing-touching : (b : Bool) (m : State) (r s o n i : ℕ) (c : Command) → Tried c n → concernsRight b r (operationAt c 0) ≡ false → touchingIn b m r s o n i (meaning c) ≡ none
-nothing-touching b m r s o n i c H e = never-touching b m r s o n i (meaning c) (λ p.
-    ap (λ (w : ModelOperation). elim (pick b (entersAt r s o (namesOfPlace (meaning c) n p) w) (deletesAt r s o (namesOfPlace (meaning c) n p) w)) [ true ↦ doable (meaning c) m (namesOfPlace (meaning c) n p) | false ↦ false ]) (operation-is c n H)
-    ∙ ap (λ (u : Bool). elim u [ true ↦ doable (meaning c) m (namesOfPlace (meaning c) n p) | false ↦ false ]) (untouched b r s o (operationAt c 0) e (namesOfPlace (meaning c) n p)))
+pub nothing-touching : (b : Bool) (S : System) (m : State) (r s o n i : ℕ) (c : Command) → Tried c n → concernsRight b r (operationAt c 0) ≡ false → touchingIn b S m r s o n i (meaning c) ≡ none
+nothing-touching b S m r s o n i c H e = never-touching b S m r s o n i (meaning c) (λ p.
+    ap (λ (w : ModelOperation). elim (pick b (entersAt r s o (namesOfPlace (meaning c) n p) w) (deletesAt r s o (namesOfPlace (meaning c) n p) w)) [ true ↦ doable S (meaning c) m (namesOfPlace (meaning c) n p) | false ↦ false ]) (operation-is c n H)
+    ∙ ap (λ (u : Bool). elim u [ true ↦ doable S (meaning c) m (namesOfPlace (meaning c) n p) | false ↦ false ]) (untouched b r s o (operationAt c 0) e (namesOfPlace (meaning c) n p)))
 
 pub concerned-covers : (p : Policy) → PolicyFits p → SingleSteps p → (b : Bool) (m : State) (r s o n : ℕ) → n ≤ names → (which : ℕ) → ConcernedBy p b r which → Covers p b m r s o n which
 unfolding concernsIn
 concerned-covers p F single b m r s o n small which W = record {
   none-else = λ (i : ℕ) (l : i < p .commands) (e : has which i ≡ false).
-      nothing-touching b m r s o n i (getD (p .command) i missing) (command-tried p F single n small i l (getD (p .command) i missing) refl) (sym (W .says i l) ∙ e);
+      nothing-touching b (systemOf p) m r s o n i (getD (p .command) i missing) (command-tried p F single n small i l (getD (p .command) i missing) refl) (sym (W .says i l) ∙ e);
 }

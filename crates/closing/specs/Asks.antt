@@ -4,6 +4,7 @@ use mathlib.Core.Path.{_≡_}
 use mathlib.Core.Logic.{_⊎_}
 use mathlib.Core.Bool.{Bool, true, false, not, _&&_}
 use mathlib.Core.List.{List}
+use lib.Bits.{bitAnd}
 use lib.Dec.{eqb}
 use lib.ListN.{length, getD}
 use Rattle.cases.specs.Cases.{pick}
@@ -46,24 +47,24 @@ pub record AskedBy (p : Policy) (asks : List ℕ) : Type 0 where
   pub length-is : length asks ≡ 4 * rights
   pub says : (e i : ℕ) → e < 4 * rights → has (getD asks e 0) i ≡ true → Asks (getD (p .command) i missing) (e / rights) (e % rights)
 
--- command i asks in cell k for a right that the set lacks
-pub record Lacks (asks : List ℕ) (k set i : ℕ) : Type 0 where
+-- command i asks in cell k for a right that no right of the set carries; element q of `carriers` has those that carry q
+pub record Lacks (asks carriers : List ℕ) (k set i : ℕ) : Type 0 where
   pub right : ℕ
   pub small : right < rights
-  pub lacks : has set right ≡ false
+  pub lacks : bitAnd set (getD carriers right 0) ≡ 0
   pub asked : has (getD asks (rights * k + right) 0) i ≡ true
 
-pub record LackingIn (asks : List ℕ) (k set mask : ℕ) : Type 0 where
-  pub says : (i : ℕ) → has mask i ≡ true → Lacks asks k set i
+pub record LackingIn (asks carriers : List ℕ) (k set mask : ℕ) : Type 0 where
+  pub says : (i : ℕ) → has mask i ≡ true → Lacks asks carriers k set i
 
 -- in one of the four cells
-pub record LacksAt (asks cells : List ℕ) (s o i : ℕ) : Type 0 where
+pub record LacksAt (asks carriers cells : List ℕ) (s o i : ℕ) : Type 0 where
   pub cell : ℕ
   pub few : cell < 4
-  pub lacks : Lacks asks cell (getD cells (names * onSide (cell / 2) s o + onSide (cell % 2) s o) 0) i
+  pub lacks : Lacks asks carriers cell (getD cells (names * onSide (cell / 2) s o + onSide (cell % 2) s o) 0) i
 
-pub record LackingAt (asks cells : List ℕ) (s o mask : ℕ) : Type 0 where
-  pub says : (i : ℕ) → has mask i ≡ true → LacksAt asks cells s o i
+pub record LackingAt (asks carriers cells : List ℕ) (s o mask : ℕ) : Type 0 where
+  pub says : (i : ℕ) → has mask i ≡ true → LacksAt asks carriers cells s o i
 
 unfoldable pub leftIn : ℕ → ℕ → ℕ → Bool
 leftIn which lacking i = has which i && not (has lacking i)

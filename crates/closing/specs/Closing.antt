@@ -12,6 +12,7 @@ use Rattle.protection.specs.Limits.{names}
 use Rattle.protection.specs.State.{State}
 use Rattle.protection.specs.Command.{Command, System, Call, actuals}
 use Rattle.protection.specs.Judge.{firstIn, placesOf, operationIn, fourOf, callAt, allowed, deletesAt, entersAt, takes, returns, firstCall, both}
+use Rattle.matrix.specs.Matrices.{stateOf}
 use Rattle.matrix.specs.declared.Matrix.{Matrix}
 use Rattle.masks.specs.declared.Tables.{Tables}
 use Rattle.commands.specs.Contents.{missing, operationAt, meaning}
@@ -19,6 +20,7 @@ use Rattle.commands.specs.declared.StepRead.{StepRead}
 use Rattle.commands.specs.declared.StepRead.the-variants.{Enter, Delete, CreateSubject, CreateObject, DestroySubject, DestroyObject, Refused}
 use Rattle.queries.specs.Useful.{touchesAt}
 use Rattle.queries.specs.Sought.{Seen}
+use Rattle.policy.specs.Contents.{systemOf}
 use Rattle.policy.specs.Fits.{PolicyFits}
 use Rattle.policy.specs.declared.Policy.{Policy}
 use Rattle.visits.specs.Engine.{SingleSteps}
@@ -61,16 +63,20 @@ unfoldable pub firstTouching : Bool → System → State → ℕ → ℕ → ℕ
 firstTouching enters S m r s o n = firstCall (touching enters S m r s o) n 0 (S .commands)
 
 -- the first place of command C
-unfoldable pub placeTouching : Bool → State → ℕ → ℕ → ℕ → ℕ → Command → ℕ
-placeTouching enters m r s o n C = firstIn (touchesAt enters m r s o C n) (placesOf C n) 0
+unfoldable pub placeTouching : Bool → System → State → ℕ → ℕ → ℕ → ℕ → Command → ℕ
+placeTouching enters S m r s o n C = firstIn (touchesAt enters S m r s o C n) (placesOf C n) 0
 
 -- the first call of command C, number i
-unfoldable pub touchingIn : Bool → State → ℕ → ℕ → ℕ → ℕ → ℕ → Command → Option Call
-touchingIn enters m r s o n i C = pick (ltb (placeTouching enters m r s o n C) (placesOf C n)) (some (callAt i C n (placeTouching enters m r s o n C))) none
+unfoldable pub touchingIn : Bool → System → State → ℕ → ℕ → ℕ → ℕ → ℕ → Command → Option Call
+touchingIn enters S m r s o n i C = pick (ltb (placeTouching enters S m r s o n C) (placesOf C n)) (some (callAt i C n (placeTouching enters S m r s o n C))) none
+
+-- it was found, in every system under which the masks are seen
+pub record TouchingFound (enters : Bool) (m : Matrix) (t : Tables) (r s o n i : ℕ) (C : Command) (x : Found) : Type 0 where
+  pub of : (S : System) → Seen S m t → foundCall x ≡ touchingIn enters S (stateOf m) r s o n i C
 
 -- no command outside the mask has such a call
 pub record Covers (p : Policy) (enters : Bool) (m : State) (r s o n mask : ℕ) : Type 0 where
-  pub none-else : (i : ℕ) → i < p .commands → has mask i ≡ false → touchingIn enters m r s o n i (meaning (getD (p .command) i missing)) ≡ none
+  pub none-else : (i : ℕ) → i < p .commands → has mask i ≡ false → touchingIn enters (systemOf p) m r s o n i (meaning (getD (p .command) i missing)) ≡ none
 
 -- the two steps for the cell, where name n is lowest absent; nothing, if one of them is not found
 unfoldable pub bothAt : System → ℕ → ℕ → State → ℕ → ℕ → List Call
@@ -80,7 +86,7 @@ bothAt S r n m s o = both (firstCall (takes S m r s o) n 0 (S .commands)) (first
 pub record Closable (p : Policy) (r : ℕ) (m : Matrix) (t : Tables) : Type 0 where
   pub fits : PolicyFits p
   pub single : SingleSteps p
-  pub seen : Seen m t
+  pub seen : Seen (systemOf p) m t
   pub right : r < p .rights
 
 -- at the cell (s, o)

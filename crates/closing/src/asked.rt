@@ -1,5 +1,5 @@
 // What commands ask of the cells of their operation's own two parameters. In the closing search these have names, s and o, and a command that asks for a
-// right which one of the four cells lacks is passed by with all the others of that kind, as digits of one mask.
+// right which one of the four cells does not meet is passed by with all the others of that kind, as digits of one mask.
 ghost use mathlib.Core.Path.{_≡_};
 ghost use mathlib.Core.Bool.{_&&_};
 ghost use Prim.Native.Nat.{_+_, _*_, _<_};
@@ -72,34 +72,40 @@ pub fn asked_by(p: Policy) -> [u32; 4 * Matrix::RIGHTS as usize]
     asks
 }
 
-// The commands that ask in cell k of the four for a right that the cell, which is the set, lacks.
-fn lacking_in(asks: &[u32; 4 * Matrix::RIGHTS as usize], k: usize, set: u8) -> u32
+// The commands that ask in cell k of the four for a right that no right in the cell, which is the set, carries.
+fn lacking_in<'a>(
+    asks: &'a [u32; 4 * Matrix::RIGHTS as usize],
+    carriers: &'a [u8; Matrix::RIGHTS as usize],
+    k: usize,
+    set: u8,
+) -> u32
     requires { ⌜ k < 4 ⌝ }
-    ensures { λ r. ⌜ LackingIn (now (asks .entry)) k set r ⌝ }
+    ensures { λ r. ⌜ LackingIn (now (asks .entry)) (now (carriers .entry)) k set r ⌝ }
 {
     let mut mask = 0u32;
-    for q in 0..Matrix::RIGHTS {
-        if !rights::holds(set, q) {
-            mask = mask | asks[Matrix::RIGHTS as usize * k + q as usize];
+    for q in 0..Matrix::RIGHTS as usize {
+        if set & carriers[q] == 0 {
+            mask = mask | asks[Matrix::RIGHTS as usize * k + q];
         }
     }
     mask
 }
 
-// The commands that ask in one of the four cells of s and o for a right that it lacks.
+// The commands that ask in one of the four cells of s and o for a right that no right in it carries.
 pub fn lacking_at<'a>(
     asks: &'a [u32; 4 * Matrix::RIGHTS as usize],
+    carriers: &'a [u8; Matrix::RIGHTS as usize],
     cells: &'a [u8; Matrix::NAMES * Matrix::NAMES],
     s: usize,
     o: usize,
 ) -> u32
     requires { ⌜ (s < names) × (o < names) ⌝ }
-    ensures { λ r. ⌜ LackingAt (now (asks .entry)) (now (cells .entry)) s o r ⌝ }
+    ensures { λ r. ⌜ LackingAt (now (asks .entry)) (now (carriers .entry)) (now (cells .entry)) s o r ⌝ }
 {
-    let a = lacking_in(asks, 0, cells[Matrix::NAMES * s + s]);
-    let b = lacking_in(asks, 1, cells[Matrix::NAMES * s + o]);
-    let c = lacking_in(asks, 2, cells[Matrix::NAMES * o + s]);
-    let d = lacking_in(asks, 3, cells[Matrix::NAMES * o + o]);
+    let a = lacking_in(asks, carriers, 0, cells[Matrix::NAMES * s + s]);
+    let b = lacking_in(asks, carriers, 1, cells[Matrix::NAMES * s + o]);
+    let c = lacking_in(asks, carriers, 2, cells[Matrix::NAMES * o + s]);
+    let d = lacking_in(asks, carriers, 3, cells[Matrix::NAMES * o + o]);
     (a | b) | (c | d)
 }
 

@@ -3,13 +3,14 @@ use Prim.Native.Nat.{ℕ}
 use mathlib.Core.Path.{_≡_, refl}
 use mathlib.Core.List.{List, [], _∷_, _++_}
 use Rattle.examples.specs.Slips.{slipCases}
-use Rattle.examples.specs.Files.{headerCases, matrixCases, ruleCases}
+use Rattle.examples.specs.Files.{headerCases, matrixCases, carryCases, ruleCases}
 use Rattle.examples.specs.Runs.{refusedCases, doneCases}
 use Rattle.examples.specs.Replays.{replayCases}
 use Rattle.examples.specs.Judgements.{callerCases, roundCases, createCases, closingCases}
 use Rattle.examples.specs.Needs.{needCases}
 use Rattle.examples.specs.Trusted.{trustedCases}
 use Rattle.examples.specs.Sheets.{sheetCases}
+use Rattle.examples.specs.Carrying.{metCases, carriedReplayCases, carriedJudgeCases, carriedQuestionCases}
 use Rattle.examples.specs.Table.{parts, table, AllCases}
 use Rattle.examples.proofs.Computed.{computed}
 use Rattle.examples.proofs.Tests.{failing, NoneFail, none-fail}
@@ -26,6 +27,10 @@ headerCases-hold = refl
 matrixCases-hold : failing matrixCases ≡ []
 unfolding computed
 matrixCases-hold = refl
+
+carryCases-hold : failing carryCases ≡ []
+unfolding computed
+carryCases-hold = refl
 
 ruleCases-hold : failing ruleCases ≡ []
 unfolding computed
@@ -71,6 +76,22 @@ sheetCases-hold : failing sheetCases ≡ []
 unfolding computed
 sheetCases-hold = refl
 
+metCases-hold : failing metCases ≡ []
+unfolding computed
+metCases-hold = refl
+
+carriedReplayCases-hold : failing carriedReplayCases ≡ []
+unfolding computed
+carriedReplayCases-hold = refl
+
+carriedJudgeCases-hold : failing carriedJudgeCases ≡ []
+unfolding computed
+carriedJudgeCases-hold = refl
+
+carriedQuestionCases-hold : failing carriedQuestionCases ≡ []
+unfolding computed
+carriedQuestionCases-hold = refl
+
 -- ---- the claim
 -- a part before those behind it
 infixr 40 _▸_
@@ -78,7 +99,7 @@ abbrev _▸_ : {A B : Type 0} → A → B → A × B
 a ▸ b = (a, b)
 
 none : NoneFail parts
-none = slipCases-hold ▸ headerCases-hold ▸ matrixCases-hold ▸ ruleCases-hold ▸ refusedCases-hold ▸ doneCases-hold ▸ replayCases-hold ▸ callerCases-hold ▸ roundCases-hold ▸ createCases-hold ▸ closingCases-hold ▸ needCases-hold ▸ trustedCases-hold ▸ sheetCases-hold ▸ tt
+none = slipCases-hold ▸ headerCases-hold ▸ matrixCases-hold ▸ carryCases-hold ▸ ruleCases-hold ▸ refusedCases-hold ▸ doneCases-hold ▸ replayCases-hold ▸ callerCases-hold ▸ roundCases-hold ▸ createCases-hold ▸ closingCases-hold ▸ needCases-hold ▸ trustedCases-hold ▸ sheetCases-hold ▸ metCases-hold ▸ carriedReplayCases-hold ▸ carriedJudgeCases-hold ▸ carriedQuestionCases-hold ▸ tt
 
 pub all-cases : AllCases table
 all-cases = record { named = refl; every-refusal = refl; hold = none-fail parts none }

@@ -14,8 +14,9 @@ use Rattle.rights.specs.Rights.{within}
 use Rattle.protection.specs.Limits.{names}
 use Rattle.matrix.specs.Bytes.{inside}
 use Rattle.matrix.specs.Refusals.{kindFits, cellFits, matrixRefusal}
-use Rattle.layout.specs.File.{rightsOf, kindsIn, cellsIn, commandsOf}
+use Rattle.layout.specs.File.{rightsOf, kindsIn, cellsIn, carriesIn, commandsOf}
 use Rattle.layout.specs.Refusals.{orElse, headerRefusal, pairsRefusal, sizesRefusal}
+use Rattle.carries.specs.Refusals.{carriesRefusal}
 use Rattle.policy.specs.Refusals.{commandsRefusal, refusal}
 
 -- a test holds at n bytes of a list, and at their places from j on
@@ -96,10 +97,11 @@ walkedRefusal f =
     (orElse (pairsRefusal f)
     (orElse (sizesRefusal f)
     (orElse (walkedMatrix (rightsOf f) (kindsIn f) (cellsIn f))
-    (commandsRefusal f (commandsOf f) 0))))
+    (orElse (carriesRefusal (rightsOf f) (carriesIn f))
+    (commandsRefusal f (commandsOf f) 0)))))
 
 pub refusal-walked : (f : List ℕ) → walkedRefusal f ≡ refusal f
 unfolding refusal
 refusal-walked f =
-    ap (λ z. orElse (headerRefusal f) (orElse (pairsRefusal f) (orElse (sizesRefusal f) (orElse z (commandsRefusal f (commandsOf f) 0)))))
+    ap (λ z. orElse (headerRefusal f) (orElse (pairsRefusal f) (orElse (sizesRefusal f) (orElse z (orElse (carriesRefusal (rightsOf f) (carriesIn f)) (commandsRefusal f (commandsOf f) 0))))))
     (matrix-walked (rightsOf f) (kindsIn f) (cellsIn f))

@@ -103,9 +103,13 @@ onName o = ruleBytes 1 [] (o ∷ [])
 abbrev pub onCell : List ℕ → List ℕ
 onCell o = ruleBytes 2 [] (o ∷ [])
 
--- the whole file: rights, kinds, cells, rules
+-- the whole file: rights, kinds, cells, what each right carries, rules
+abbrev pub fileCarrying : ℕ → List KindAt → List CellAt → List ℕ → List (List ℕ) → List ℕ
+fileCarrying g ks cs carries rules = fileWith g (kindBytes ks ∷ cellBytes cs ∷ carries ∷ rules)
+
+-- "an all-zero pair" (document 02, C-19): no right carries another
 abbrev pub fileOf : ℕ → List KindAt → List CellAt → List (List ℕ) → List ℕ
-fileOf g ks cs rules = fileWith g (kindBytes ks ∷ cellBytes cs ∷ rules)
+fileOf g ks cs rules = fileCarrying g ks cs (replicate g 0) rules
 
 -- ---- what a call is given, and what it leaves
 -- a rule run: the rule's number and the actuals; "positions from k on hold 255"

@@ -1,9 +1,9 @@
--- Files and their refusals, 1 to 9 (document 01, "Refused, by whom"): both sides of each bound, and behind each fault a later one that must not win.
--- "Order: 1 (2 and 4,096 bytes), 2, 3, 1 (pairs), 4, 5 for kinds and cells, 6, 7, then rule by rule 5 (under 3), 8, 5, 9."
+-- Files and their refusals, 1 to 9 and 44 (document 01, "Refused, by whom"; document 02, C-19): both sides of each bound, and behind each fault a later one that
+-- must not win. "Order: 1 (2 and 4,096 bytes), 2, 3, 1 (pairs), 4, 5 for kinds and cells, 6, 7, then rule by rule 5 (under 3), 8, 5, 9."; 44 stands "between 7 and the rules".
 use Prim.Native.Nat.{ℕ}
 use mathlib.Core.List.{List, [], _∷_}
 use lib.ListN.{replicate}
-use Rattle.examples.specs.Build.{pair, fileWith, anObject, aSubject, CellAt, cellWith, ifIn, step, enter, delete, createSubject, createObject, destroySubject, destroyObject, ruleBytes, onName, onCell, fileOf}
+use Rattle.examples.specs.Build.{pair, fileWith, anObject, aSubject, CellAt, cellWith, ifIn, step, enter, delete, createSubject, createObject, destroySubject, destroyObject, ruleBytes, onName, onCell, fileCarrying, fileOf}
 use Rattle.examples.specs.Cases.{checks, Row, row}
 
 -- the first bytes and the pairs alone: no section is there, or they are too short
@@ -15,26 +15,30 @@ headerCases =
     row "2: two bytes, g 0, before 3" (checks (0 ∷ 0 ∷ []) 2) ∷
     row "1: 4,097 bytes, before 2" (checks (replicate 4097 0) 1) ∷
     row "2: 4,096 bytes" (checks (replicate 4096 0) 2) ∷
-    -- "2 g not 1 to 8"; "3 pairs not 2 to 34"
-    row "2: g 9, before 3" (checks (9 ∷ 35 ∷ []) 2) ∷
-    row "3: g 1, one pair, before 1" (checks (1 ∷ 1 ∷ []) 3) ∷
-    row "3: g 8, 35 pairs, before 1" (checks (8 ∷ 35 ∷ []) 3) ∷
+    -- "2 g not 1 to 8"; "pairs are 3 to 35" (C-19)
+    row "2: g 9, before 3" (checks (9 ∷ 36 ∷ []) 2) ∷
+    row "3: g 1, two pairs, before 1" (checks (1 ∷ 2 ∷ []) 3) ∷
+    row "3: g 8, 36 pairs, before 1" (checks (8 ∷ 36 ∷ []) 3) ∷
     -- "1 .. shorter than its pairs need": 2 + 4 × pairs bytes
-    row "1: 2 pairs in 9 bytes, before 4" (checks (1 ∷ 2 ∷ replicate 7 0) 1) ∷
-    row "1: 34 pairs in 137 bytes, before 4" (checks (8 ∷ 34 ∷ replicate 135 0) 1) ∷
+    row "1: 3 pairs in 13 bytes, before 4" (checks (1 ∷ 3 ∷ replicate 11 0) 1) ∷
+    row "1: 35 pairs in 141 bytes, before 4" (checks (8 ∷ 35 ∷ replicate 139 0) 1) ∷
     -- "4 an offset or end not where it must be"; the sections' lengths, 5, are wrong too
-    row "4: 2 pairs in 10 bytes, the first offset 0, before 5" (checks (1 ∷ 2 ∷ replicate 8 0) 4) ∷
-    row "4: 34 pairs in 138 bytes" (checks (8 ∷ 34 ∷ replicate 136 0) 4) ∷
-    row "4: a byte between two sections, before 5" (checks (1 ∷ 2 ∷ pair 10 1 (pair 12 1 (3 ∷ 0 ∷ 0 ∷ []))) 4) ∷
-    row "4: a byte of two sections, before 5" (checks (1 ∷ 2 ∷ pair 10 2 (pair 11 2 (3 ∷ 0 ∷ 0 ∷ []))) 4) ∷
-    row "4: a byte behind the last section, before 5" (checks (1 ∷ 2 ∷ pair 10 1 (pair 11 1 (3 ∷ 0 ∷ 0 ∷ []))) 4) ∷
-    row "4: the last section cut, before 5" (checks (1 ∷ 2 ∷ pair 10 1 (pair 11 1 (3 ∷ []))) 4) ∷
-    row "4: sums are not taken modulo 65,536, before 5" (checks (1 ∷ 2 ∷ pair 10 65535 (pair 9 1 [])) 4) ∷
+    row "4: 3 pairs in 14 bytes, the first offset 0, before 5" (checks (1 ∷ 3 ∷ replicate 12 0) 4) ∷
+    row "4: 35 pairs in 142 bytes" (checks (8 ∷ 35 ∷ replicate 140 0) 4) ∷
+    row "4: a byte between two sections, before 5" (checks (1 ∷ 3 ∷ pair 14 1 (pair 16 1 (pair 17 1 (3 ∷ 0 ∷ 0 ∷ 0 ∷ [])))) 4) ∷
+    row "4: a byte of two sections, before 5" (checks (1 ∷ 3 ∷ pair 14 1 (pair 15 2 (pair 16 2 (3 ∷ 0 ∷ 0 ∷ 0 ∷ [])))) 4) ∷
+    row "4: a byte behind the last section, before 5" (checks (1 ∷ 3 ∷ pair 14 1 (pair 15 1 (pair 16 1 (3 ∷ 0 ∷ 0 ∷ 0 ∷ [])))) 4) ∷
+    row "4: the last section cut, before 5" (checks (1 ∷ 3 ∷ pair 14 1 (pair 15 1 (pair 16 1 (3 ∷ 0 ∷ [])))) 4) ∷
+    row "4: sums are not taken modulo 65,536, before 5" (checks (1 ∷ 3 ∷ pair 14 65535 (pair 13 1 (pair 14 0 []))) 4) ∷
     -- "5 a section's length wrong (kinds, cells, ..)"; a kind above 2, 6, is there too
-    row "5: kinds of 31 bytes, before 6" (checks (fileWith 1 (replicate 31 3 ∷ replicate 1024 0 ∷ [])) 5) ∷
-    row "5: kinds of 33 bytes, before 6" (checks (fileWith 1 (replicate 33 3 ∷ replicate 1024 0 ∷ [])) 5) ∷
-    row "5: cells of 1,023 bytes, before 6" (checks (fileWith 1 (replicate 32 3 ∷ replicate 1023 0 ∷ [])) 5) ∷
-    row "5: cells of 1,025 bytes, before 6" (checks (fileWith 1 (replicate 32 3 ∷ replicate 1025 0 ∷ [])) 5) ∷
+    row "5: kinds of 31 bytes, before 6" (checks (fileWith 1 (replicate 31 3 ∷ replicate 1024 0 ∷ replicate 1 0 ∷ [])) 5) ∷
+    row "5: kinds of 33 bytes, before 6" (checks (fileWith 1 (replicate 33 3 ∷ replicate 1024 0 ∷ replicate 1 0 ∷ [])) 5) ∷
+    row "5: cells of 1,023 bytes, before 6" (checks (fileWith 1 (replicate 32 3 ∷ replicate 1023 0 ∷ replicate 1 0 ∷ [])) 5) ∷
+    row "5: cells of 1,025 bytes, before 6" (checks (fileWith 1 (replicate 32 3 ∷ replicate 1025 0 ∷ replicate 1 0 ∷ [])) 5) ∷
+    -- "g bytes", and "its length counts under 5 with kinds and cells, before 6" (C-19); a carried right from g on, 44, is there too
+    row "5: carries of g - 1 bytes, before 6" (checks (fileWith 2 (replicate 32 3 ∷ replicate 1024 0 ∷ replicate 1 4 ∷ [])) 5) ∷
+    row "5: carries of g + 1 bytes, before 6" (checks (fileWith 2 (replicate 32 3 ∷ replicate 1024 0 ∷ replicate 3 4 ∷ [])) 5) ∷
+    row "5: carries of no byte, g 1" (checks (fileWith 1 (replicate 32 0 ∷ replicate 1024 0 ∷ [] ∷ [])) 5) ∷
     []
 
 -- a rule's section of no bytes, which is 5
@@ -59,6 +63,24 @@ matrixCases =
     row "5: an object's column" (checks (oneCell (cellWith 0 1 1)) 5) ∷
     row "7: the last cell" (checks (oneCell (cellWith 31 31 1)) 7) ∷
     row "accepted: g 8, all rights in a cell" (checks (fileOf 8 (aSubject 0 ∷ []) (cellWith 0 0 255 ∷ []) []) 0) ∷
+    []
+
+-- g 2, no names, these carries and this rule
+abbrev pub carrying : List ℕ → List ℕ → List ℕ
+carrying carries rule = fileCarrying 2 [] [] carries (rule ∷ [])
+
+abbrev pub carryCases : List Row
+carryCases =
+    -- "It refuses with 44 .., between 7 and the rules, a carried right from g on"
+    row "7: right g in a cell, before 44" (checks (fileCarrying 2 (aSubject 0 ∷ []) (cellWith 0 0 4 ∷ []) (4 ∷ 0 ∷ []) []) 7) ∷
+    row "44: right g carried, before rule 0's 5" (checks (carrying (4 ∷ 0 ∷ []) noBytes) 44) ∷
+    row "44: right g carried by the last right" (checks (carrying (0 ∷ 4 ∷ []) noBytes) 44) ∷
+    row "44: right 7 carried beside right 0" (checks (carrying (129 ∷ 0 ∷ []) noBytes) 44) ∷
+    row "5: rights below g carried" (checks (carrying (3 ∷ 3 ∷ []) noBytes) 5) ∷
+    row "44: before rule 0's 8" (checks (carrying (4 ∷ 0 ∷ []) (0 ∷ 0 ∷ 1 ∷ [])) 44) ∷
+    row "44: before rule 0's 9" (checks (carrying (4 ∷ 0 ∷ []) (onName (enter 2 0 0))) 44) ∷
+    row "44: g 7, right 7 carried" (checks (fileCarrying 7 [] [] (128 ∷ replicate 6 0) []) 44) ∷
+    row "accepted: g 8, each right carries all" (checks (fileCarrying 8 [] [] (replicate 8 255) []) 0) ∷
     []
 
 -- g 2, no names, and these rules
@@ -114,5 +136,5 @@ ruleCases =
     (ifIn 1 3 3 ∷ ifIn 1 3 3 ∷ ifIn 1 3 3 ∷ ifIn 1 3 3 ∷ [])
     (enter 1 3 3 ∷ delete 1 3 3 ∷ createSubject 3 ∷ createObject 3 ∷ destroySubject 3 ∷ destroyObject 3 ∷ []) ∷ []))
     0) ∷
-    row "accepted: 34 pairs" (checks (withRules (replicate 32 (onName (createSubject 0)))) 0) ∷
+    row "accepted: 35 pairs" (checks (withRules (replicate 32 (onName (createSubject 0)))) 0) ∷
     []

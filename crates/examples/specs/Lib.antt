@@ -8,4 +8,5 @@ pub mod Judgements
 pub mod Needs
 pub mod Trusted
 pub mod Sheets
+pub mod Carrying
 pub mod Table

@@ -16,16 +16,17 @@ use Rattle.needs.specs.declared.Need.the-variants.{Refused as NeedRefused, Held
 use Rattle.examples.specs.Build.{joined}
 use Rattle.examples.specs.Cases.{Case, checks, runs, replays, judges, judgesPart, needs, asks, prints, Row, rowNames, AllHold}
 use Rattle.examples.specs.Slips.{slipCases}
-use Rattle.examples.specs.Files.{headerCases, matrixCases, ruleCases}
+use Rattle.examples.specs.Files.{headerCases, matrixCases, carryCases, ruleCases}
 use Rattle.examples.specs.Runs.{refusedCases, doneCases}
 use Rattle.examples.specs.Replays.{replayCases}
 use Rattle.examples.specs.Judgements.{callerCases, roundCases, createCases, closingCases}
 use Rattle.examples.specs.Needs.{needCases}
 use Rattle.examples.specs.Trusted.{trustedCases}
 use Rattle.examples.specs.Sheets.{sheetCases}
+use Rattle.examples.specs.Carrying.{metCases, carriedReplayCases, carriedJudgeCases, carriedQuestionCases}
 
 abbrev pub parts : List (List Row)
-parts = slipCases ∷ headerCases ∷ matrixCases ∷ ruleCases ∷ refusedCases ∷ doneCases ∷ replayCases ∷ callerCases ∷ roundCases ∷ createCases ∷ closingCases ∷ needCases ∷ trustedCases ∷ sheetCases ∷ []
+parts = slipCases ∷ headerCases ∷ matrixCases ∷ carryCases ∷ ruleCases ∷ refusedCases ∷ doneCases ∷ replayCases ∷ callerCases ∷ roundCases ∷ createCases ∷ closingCases ∷ needCases ∷ trustedCases ∷ sheetCases ∷ metCases ∷ carriedReplayCases ∷ carriedJudgeCases ∷ carriedQuestionCases ∷ []
 
 abbrev pub table : List Row
 table = joined parts
@@ -59,12 +60,12 @@ required =
     "1: 4,097 bytes, before 2" ∷
     "2: 4,096 bytes" ∷
     "2: g 9, before 3" ∷
-    "3: g 1, one pair, before 1" ∷
-    "3: g 8, 35 pairs, before 1" ∷
-    "1: 2 pairs in 9 bytes, before 4" ∷
-    "1: 34 pairs in 137 bytes, before 4" ∷
-    "4: 2 pairs in 10 bytes, the first offset 0, before 5" ∷
-    "4: 34 pairs in 138 bytes" ∷
+    "3: g 1, two pairs, before 1" ∷
+    "3: g 8, 36 pairs, before 1" ∷
+    "1: 3 pairs in 13 bytes, before 4" ∷
+    "1: 35 pairs in 141 bytes, before 4" ∷
+    "4: 3 pairs in 14 bytes, the first offset 0, before 5" ∷
+    "4: 35 pairs in 142 bytes" ∷
     "4: a byte between two sections, before 5" ∷
     "4: a byte of two sections, before 5" ∷
     "4: a byte behind the last section, before 5" ∷
@@ -74,6 +75,9 @@ required =
     "5: kinds of 33 bytes, before 6" ∷
     "5: cells of 1,023 bytes, before 6" ∷
     "5: cells of 1,025 bytes, before 6" ∷
+    "5: carries of g - 1 bytes, before 6" ∷
+    "5: carries of g + 1 bytes, before 6" ∷
+    "5: carries of no byte, g 1" ∷
     "6: the last kind 3, before 7" ∷
     "7: the last kind 2" ∷
     "7: right g in a cell, before a rule's 5" ∷
@@ -84,6 +88,15 @@ required =
     "5: an object's column" ∷
     "7: the last cell" ∷
     "accepted: g 8, all rights in a cell" ∷
+    "7: right g in a cell, before 44" ∷
+    "44: right g carried, before rule 0's 5" ∷
+    "44: right g carried by the last right" ∷
+    "44: right 7 carried beside right 0" ∷
+    "5: rights below g carried" ∷
+    "44: before rule 0's 8" ∷
+    "44: before rule 0's 9" ∷
+    "44: g 7, right 7 carried" ∷
+    "accepted: g 8, each right carries all" ∷
     "5: a rule of 2 bytes, before 8" ∷
     "8: no blanks, before 5" ∷
     "8: 5 blanks, before 5" ∷
@@ -112,7 +125,7 @@ required =
     "9: a second blank in kind 6" ∷
     "9: a created blank k" ∷
     "accepted: the largest rule" ∷
-    "accepted: 34 pairs" ∷
+    "accepted: 35 pairs" ∷
     "5 before 11" ∷
     "11: rule 1 of one, before 12" ∷
     "12: 32 for a named blank, before 14" ∷
@@ -267,11 +280,59 @@ required =
     "sheet: 43, 9 entries" ∷
     "sheet: 43 before the file's refusal" ∷
     "sheet: a bad file, its refusal in each entry" ∷
+    "done: approve carries read" ∷
+    "14: approve without carries" ∷
+    "14: read carries approve, and approve is there" ∷
+    "14: approve carries another right" ∷
+    "14: another right is there" ∷
+    "14: no right is there" ∷
+    "done: the last of two rights carries read" ∷
+    "done: a chain of three" ∷
+    "14: a chain that breaks" ∷
+    "done: a cycle" ∷
+    "14: a cycle without read" ∷
+    "done: read without carries" ∷
+    "done: read carries itself" ∷
+    "14: approve carries itself" ∷
+    "done: enter a right already carried" ∷
+    "done: enter a right that carries another" ∷
+    "done: delete a right that carries another" ∷
+    "done: delete a right that another carries" ∷
+    "44 before 11" ∷
+    "replay: 44 before 21" ∷
+    "leak at step 1, met by what step 0 entered" ∷
+    "replay: 14 at step 1, without carries" ∷
+    "no leak: what carries the right is entered" ∷
+    "leak at step 1, of a right already carried" ∷
+    "judge: 44 before 21" ∷
+    "desk: 44" ∷
+    "judge: unsafe only through carrying" ∷
+    "judge: safe without it" ∷
+    "desk: unsafe only through carrying" ∷
+    "judge: met by what a step entered" ∷
+    "judge: met in a created name's cell" ∷
+    "judge: safe although carrying" ∷
+    "judge: unsafe by a right already carried" ∷
+    "judge: a right already carried is useful" ∷
+    "P2, right 1 carries right 0" ∷
+    "P3, right 1 carries right 0" ∷
+    "P3, right 0 carries right 1" ∷
+    "P2, right 0 alone in the cell carries right 1" ∷
+    "judge: met through two rights, one of them gone" ∷
+    "judge: met through one right, and that gone" ∷
+    "need: 44 before 41" ∷
+    "need: met is not held" ∷
+    "need: what carries it is held" ∷
+    "need: held through carrying" ∷
+    "part: 44 before 21" ∷
+    "part: carrying without the office" ∷
+    "sheet: 44 in each entry" ∷
+    "sheet: each right under carrying" ∷
     []
 
 -- every refusal of document 01 and of document 02 as far as it is built is the answer of some row; 13 is given by nobody since document 02, C-11
 abbrev pub refusals : List ℕ
-refusals = 1 ∷ 2 ∷ 3 ∷ 4 ∷ 5 ∷ 6 ∷ 7 ∷ 8 ∷ 9 ∷ 11 ∷ 12 ∷ 14 ∷ 15 ∷ 21 ∷ 22 ∷ 23 ∷ 24 ∷ 31 ∷ 41 ∷ 42 ∷ 43 ∷ []
+refusals = 1 ∷ 2 ∷ 3 ∷ 4 ∷ 5 ∷ 6 ∷ 7 ∷ 8 ∷ 9 ∷ 11 ∷ 12 ∷ 14 ∷ 15 ∷ 21 ∷ 22 ∷ 23 ∷ 24 ∷ 31 ∷ 41 ∷ 42 ∷ 43 ∷ 44 ∷ []
 
 abbrev pub replayRefused : Replay → ℕ
 replayRefused NoLeak = 0

@@ -19,7 +19,8 @@ use Rattle.commands.proofs.Reading.{fits-wider}
 use Rattle.policy.specs.Contents.{systemOf}
 use Rattle.policy.specs.Fits.{PolicyFits}
 use Rattle.policy.specs.declared.Policy.{Policy}
-use Rattle.execution.specs.Runs.{executedOf, outcomeOf, ExecutedAs}
+use Rattle.policy.proofs.Laws.{policy-met}
+use Rattle.execution.specs.Runs.{executedOf, outcomeOf, ExecutedAs, RunBy}
 use Rattle.execution.specs.declared.Answer.the-variants.{Refused}
 use Rattle.execution.specs.declared.Executed.{Executed}
 use Rattle.execution.proofs.Running.{executed-refused}
@@ -28,15 +29,15 @@ module _ (p : Policy) (m : Matrix) (i : ℕ) (a : List ℕ) (right : ℕ) where
   pub refused-11 : Canonical rights (m .kinds) (m .cells) → p .commands ≤ i → ExecutedAs right (outcomeOf p m i a) m (executedOf (Refused 11) m)
   refused-11 K h =
       executed-refused right 11 m m (outcomeOf p m i a) K
-      (ap (λ (w : Option ModelCommand). executeCommand bounded (stateOf m) w (valuesOf a)) (none-tabulate (λ j. meaning (getD (p .command) j missing)) (p .commands) 0 i h)) refl
+      (ap (λ (w : Option ModelCommand). executeCommand bounded (systemOf p) (stateOf m) w (valuesOf a)) (none-tabulate (λ j. meaning (getD (p .command) j missing)) (p .commands) 0 i h)) refl
 
   pub call-fits : (c : Command) → PolicyFits p → i < p .commands → c ≡ getD (p .command) i missing → Fits rights c
   call-fits c F l e = subst (Fits rights) (sym e) (fits-wider (p .rights) rights (getD (p .command) i missing) (F .few-rights) (F .commands-fit i l))
 
-  pub called : (c : Command) (x : Executed) → i < p .commands → c ≡ getD (p .command) i missing
-      → ExecutedAs right (executeCommand bounded (stateOf m) (some (meaning c)) (valuesOf a)) m x → ExecutedAs right (outcomeOf p m i a) m x
-  called c x l e h =
+  pub called : (c : Command) (x : Executed) → PolicyFits p → i < p .commands → c ≡ getD (p .command) i missing
+      → RunBy (p .carriers) right m c a x → ExecutedAs right (outcomeOf p m i a) m x
+  called c x F l e h =
       let z : 0 + i ≡ i = omega arith in
       let f : getElem? (systemOf p .commands) i ≡ some (meaning c) =
       found-tabulate (λ j. meaning (getD (p .command) j missing)) (p .commands) 0 i l ∙ ap (λ (j : ℕ). some (meaning (getD (p .command) j missing))) z ∙ ap (λ (w : Command). some (meaning w)) (sym e) in
-      subst (λ (w : Option ModelCommand). ExecutedAs right (executeCommand bounded (stateOf m) w (valuesOf a)) m x) (sym f) h
+      subst (λ (w : Option ModelCommand). ExecutedAs right (executeCommand bounded (systemOf p) (stateOf m) w (valuesOf a)) m x) (sym f) (h .is (systemOf p) (policy-met p F))

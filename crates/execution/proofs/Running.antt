@@ -14,21 +14,22 @@ use Rattle.cases.specs.Cases.{pick, all, tabulate}
 use Rattle.cases.proofs.Bools.{holds as test-holds, or-left, or-right}
 use Rattle.protection.specs.Limits.{names, rights, parameters}
 use Rattle.protection.specs.State.{State}
-use Rattle.protection.specs.Command.{Operation as ModelOperation, valuesOf, inOperation, named}
+use Rattle.protection.specs.Command.{Operation as ModelOperation, System, valuesOf, inOperation, named}
 use Rattle.protection.specs.Execution.{bounded, holdAll, actualFits, canDo, effect, entersNew, canDoAll, effectAll, entersAnyNew, Outcome, refused, done, gate, executeCommand}
 use Rattle.protection.specs.Leak.{after}
 use Rattle.matrix.specs.Bytes.{view}
 use Rattle.matrix.specs.Canonical.{Canonical}
 use Rattle.matrix.specs.Matrices.{stateOf}
 use Rattle.matrix.specs.declared.Matrix.{Matrix}
+use Rattle.carries.specs.Meeting.{MetBy}
 use Rattle.commands.specs.Contents.{operationAt, stepOf, operationsFrom, modelOf, conditionOf, meaning}
 use Rattle.commands.specs.Fits.{Fits}
 use Rattle.commands.specs.declared.Command.{Command}
 use Rattle.commands.specs.declared.Operation.{Operation}
 use Rattle.commands.specs.declared.Operation.the-variants.{Enter, Delete, CreateSubject, CreateObject, DestroySubject, DestroyObject}
 use Rattle.operations.specs.Operations.{HasName, Applies, performed}
-use Rattle.execution.specs.Conditions.{ConditionApplies, ConditionsApply}
-use Rattle.execution.specs.Runs.{OperationsApply, RanAs, answerOf, executedOf, ExecutedAs}
+use Rattle.execution.specs.Conditions.{ConditionApplies, ConditionsApply, AllHeldBy}
+use Rattle.execution.specs.Runs.{OperationsApply, RanAs, answerOf, executedOf, ExecutedAs, RunBy}
 use Rattle.execution.specs.declared.Answer.{Answer}
 use Rattle.execution.specs.declared.Answer.the-variants.{Refused, Done, Leaked}
 use Rattle.execution.specs.declared.Ran.{Ran}
@@ -175,51 +176,54 @@ executed-refused right n m y o K e d =
     subst (λ (w : Matrix). ExecutedAs right o m (executedOf (Refused n) w)) (sym d)
     (subst (λ (z : Outcome). ExecutedAs right z m (executedOf (Refused n) m)) (sym e) (record { answer = refl; state = refl; canonical = K }))
 
-module _ (right : ℕ) (m : Matrix) (c : Command) (a : List ℕ) (K : Canonical rights (m .kinds) (m .cells)) where
-  abbrev outcome : Outcome
-  outcome = executeCommand bounded (stateOf m) (some (meaning c)) (valuesOf a)
+-- in every system whose conditions the sets test
+module _ (carriers : List ℕ) (right : ℕ) (m : Matrix) (c : Command) (a : List ℕ) (K : Canonical rights (m .kinds) (m .cells)) where
+  abbrev outcome : System → Outcome
+  outcome S = executeCommand bounded S (stateOf m) (some (meaning c)) (valuesOf a)
 
   abbrev end : Outcome
   end = done (effectAll (stateOf m) (valuesOf a) (operationsFrom c (c .operations) 0)) (entersAnyNew (stateOf m) (valuesOf a) (operationsFrom c (c .operations) 0))
 
   module _ (r₁ : Bool) (d₁ : r₁ ≡ all (actualFits bounded (meaning c) (valuesOf a)) parameters 0) where
-    pub refused-12 : not r₁ ≡ true → ExecutedAs right outcome m (executedOf (Refused 12) m)
-    refused-12 t = executed-refused right 12 m m outcome K (let z = sym d₁ ∙ not-true r₁ t in rw z) refl
+    pub refused-12 : not r₁ ≡ true → RunBy carriers right m c a (executedOf (Refused 12) m)
+    refused-12 t = record { is = λ S M. executed-refused right 12 m m (outcome S) K (let z = sym d₁ ∙ not-true r₁ t in rw z) refl }
 
-    module _ (t₁ : not r₁ ≡ false) (r₃ : Bool) (d₃ : r₃ ≡ holdAll (view (m .kinds) (m .cells)) (valuesOf a) (tabulate (conditionOf c) (c .conditions) 0)) where
+    module _ (t₁ : not r₁ ≡ false) (r₃ : Bool) (d₃ : AllHeldBy (m .kinds) (m .cells) carriers a c r₃) where
       passed-12 : all (actualFits bounded (meaning c) (valuesOf a)) parameters 0 ≡ true
       passed-12 = sym d₁ ∙ not-false r₁ t₁
 
-      pub refused-14 : not r₃ ≡ true → ExecutedAs right outcome m (executedOf (Refused 14) m)
-      refused-14 t = executed-refused right 14 m m outcome K (let z = sym d₃ ∙ not-true r₃ t in rw (passed-12, z)) refl
+      pub refused-14 : not r₃ ≡ true → RunBy carriers right m c a (executedOf (Refused 14) m)
+      refused-14 t = record { is = λ S M. executed-refused right 14 m m (outcome S) K (let z = sym (d₃ .is S M) ∙ not-true r₃ t in rw (passed-12, z)) refl }
 
       module _ (t₃ : not r₃ ≡ false) (y : Matrix) (w : Ran) (d₄ : RanAs right m a c y w (Unit {0})) where
-        passed-14 : holdAll (view (m .kinds) (m .cells)) (valuesOf a) (tabulate (conditionOf c) (c .conditions) 0) ≡ true
-        passed-14 = sym d₃ ∙ not-false r₃ t₃
+        passed-14 : (S : System) → MetBy S carriers → holdAll S (view (m .kinds) (m .cells)) (valuesOf a) (tabulate (conditionOf c) (c .conditions) 0) ≡ true
+        passed-14 S M = sym (d₃ .is S M) ∙ not-false r₃ t₃
 
-        pub refused-15 : not (w .done) ≡ true → ExecutedAs right outcome m (executedOf (Refused 15) y)
+        pub refused-15 : not (w .done) ≡ true → RunBy carriers right m c a (executedOf (Refused 15) y)
         refused-15 t =
             let e : w .done ≡ false = not-true (w .done) t in
-            executed-refused right 15 m y outcome K (let z = sym (d₄ .able) ∙ e in rw (passed-12, passed-14, z)) (d₄ .none e tt)
+            record { is = λ S M. executed-refused right 15 m y (outcome S) K (let z = sym (d₄ .able) ∙ e in rw (passed-12, passed-14 S M, z)) (d₄ .none e tt) }
 
         module _ (t₄ : not (w .done) ≡ false) where
           is-done : w .done ≡ true
           is-done = not-false (w .done) t₄
 
-          ended : outcome ≡ end
-          ended = let z = sym (d₄ .able) ∙ is-done in rw (passed-12, passed-14, z)
+          ended : (S : System) → MetBy S carriers → outcome S ≡ end
+          ended S M = let z = sym (d₄ .able) ∙ is-done in rw (passed-12, passed-14 S M, z)
 
-          finished : (r : Answer) → r ≡ pick (w .leaked) Leaked Done → ExecutedAs right outcome m (executedOf r y)
+          finished : (r : Answer) → r ≡ pick (w .leaked) Leaked Done → RunBy carriers right m c a (executedOf r y)
           finished r ea =
               let u : r ≡ answerOf right end = ea ∙ ap (λ (b : Bool). pick b Leaked Done) (d₄ .leak is-done) in
               record {
-                answer = u ∙ ap (answerOf right) (sym ended);
-                state = d₄ .state is-done ∙ ap (λ (o : Outcome). after o (stateOf m)) (sym ended);
-                canonical = d₄ .canonical;
+                is = λ S M. record {
+                  answer = u ∙ ap (answerOf right) (sym (ended S M));
+                  state = d₄ .state is-done ∙ ap (λ (o : Outcome). after o (stateOf m)) (sym (ended S M));
+                  canonical = d₄ .canonical;
+                };
               }
 
-          pub done-leaked : w .leaked ≡ true → ExecutedAs right outcome m (executedOf Leaked y)
+          pub done-leaked : w .leaked ≡ true → RunBy carriers right m c a (executedOf Leaked y)
           done-leaked z = finished Leaked (rw z)
 
-          pub done-quiet : w .leaked ≡ false → ExecutedAs right outcome m (executedOf Done y)
+          pub done-quiet : w .leaked ≡ false → RunBy carriers right m c a (executedOf Done y)
           done-quiet z = finished Done (rw z)

@@ -3,16 +3,18 @@ use Prim.Native.Nat.{ℕ, _<_}
 use mathlib.Core.Path.{_≡_}
 use mathlib.Core.Bool.{Bool, true, false}
 use mathlib.Core.List.{List}
+use mathlib.Core.Option.{some}
 use lib.ListN.{getElem?}
 use Rattle.cases.specs.Cases.{pick}
 use Rattle.protection.specs.Limits.{rights}
-use Rattle.protection.specs.Command.{valuesOf}
+use Rattle.protection.specs.Command.{System, valuesOf}
 use Rattle.protection.specs.Execution.{canDoAll, effectAll, entersAnyNew, Outcome, refused, done, bounded, executeCommand}
 use Rattle.protection.specs.Leak.{after}
 use Rattle.matrix.specs.Canonical.{Canonical}
 use Rattle.matrix.specs.Matrices.{stateOf}
 use Rattle.matrix.specs.declared.Matrix.{Matrix}
-use Rattle.commands.specs.Contents.{operationAt, stepOf, operationsFrom}
+use Rattle.carries.specs.Meeting.{MetBy}
+use Rattle.commands.specs.Contents.{operationAt, stepOf, operationsFrom, meaning}
 use Rattle.commands.specs.Fits.{Fits}
 use Rattle.commands.specs.declared.Command.{Command}
 use Rattle.commands.specs.declared.Operation.{Operation as CodeOperation}
@@ -47,9 +49,13 @@ executedOf r m = record { answer = r; matrix = m }
 
 -- a call on a matrix: a command's number and the four actuals
 abbrev pub outcomeOf : Policy → Matrix → ℕ → List ℕ → Outcome
-outcomeOf p m i a = executeCommand bounded (stateOf m) (getElem? (systemOf p .commands) i) (valuesOf a)
+outcomeOf p m i a = executeCommand bounded (systemOf p) (stateOf m) (getElem? (systemOf p .commands) i) (valuesOf a)
 
 pub record ExecutedAs (right : ℕ) (o : Outcome) (m : Matrix) (x : Executed) : Type 0 where
   pub answer : x .answer ≡ answerOf right o
   pub state : stateOf (x .matrix) ≡ after o (stateOf m)
   pub canonical : Canonical rights (x .matrix .kinds) (x .matrix .cells)
+
+-- a command was run so in every system whose conditions the sets of carriers test
+pub record RunBy (carriers : List ℕ) (right : ℕ) (m : Matrix) (c : Command) (a : List ℕ) (x : Executed) : Type 0 where
+  pub is : (S : System) → MetBy S carriers → ExecutedAs right (executeCommand bounded S (stateOf m) (some (meaning c)) (valuesOf a)) m x

@@ -2,13 +2,12 @@
 ghost use mathlib.Core.Path.{_≡_};
 ghost use Prim.Native.Nat.{_<_};
 ghost use Rattle.protection.specs.Limits.{rights, parameters};
-ghost use Rattle.cases.specs.Cases.{all, tabulate};
+ghost use Rattle.cases.specs.Cases.{all};
 ghost use Rattle.protection.specs.Command.{valuesOf};
-ghost use Rattle.protection.specs.Execution.{bounded, holds, holdAll, actualFits};
-ghost use Rattle.matrix.specs.Bytes.{view};
-ghost use Rattle.commands.specs.Contents.{conditionOf, meaning};
+ghost use Rattle.protection.specs.Execution.{bounded, actualFits};
+ghost use Rattle.commands.specs.Contents.{meaning};
 ghost use Rattle.commands.specs.Fits.{Fits};
-ghost use Rattle.execution.specs.Conditions.{ConditionApplies, ConditionsApply};
+ghost use Rattle.execution.specs.Conditions.{ConditionApplies, ConditionsApply, HeldBy, AllHeldBy};
 use commands::Command;
 use matrix::Matrix;
 
@@ -40,34 +39,40 @@ pub fn actuals_fit(c: Command, a: [u8; Command::PARAMETERS]) -> bool
     true
 }
 
+// Condition j, read over what the cell's rights carry: the sets have those that carry each right.
 fn condition_holds<'a>(
     kinds: &'a [u8; Matrix::NAMES],
     cells: &'a [u8; Matrix::NAMES * Matrix::NAMES],
+    carriers: [u8; Matrix::RIGHTS as usize],
     c: Command,
     j: usize,
     a: [u8; Command::PARAMETERS],
 ) -> bool
     requires { ⌜ ConditionApplies a c j ⌝ }
-    ensures { λ r. ⌜ r ≡ holds (view (now (kinds .entry)) (now (cells .entry))) (valuesOf a) (conditionOf c j) ⌝ }
+    ensures { λ r. ⌜ HeldBy (now (kinds .entry)) (now (cells .entry)) carriers a c j r ⌝ }
 {
     let q = c.condition[3 * j];
     let s = operations::name_of(a, c.condition[3 * j + 1]);
     let o = operations::name_of(a, c.condition[3 * j + 2]);
-    operations::cell_holds(kinds, cells, q, s, o)
+    if matrix::has_cell(kinds, s, o) {
+        return cells[Matrix::NAMES * s + o] & carriers[q as usize] != 0;
+    }
+    false
 }
 
 pub fn conditions_hold<'a>(
     kinds: &'a [u8; Matrix::NAMES],
     cells: &'a [u8; Matrix::NAMES * Matrix::NAMES],
+    carriers: [u8; Matrix::RIGHTS as usize],
     c: Command,
     a: [u8; Command::PARAMETERS],
 ) -> bool
     requires { ⌜ ConditionsApply a c ⌝ }
-    ensures { λ r. ⌜ r ≡ holdAll (view (now (kinds .entry)) (now (cells .entry))) (valuesOf a) (tabulate (conditionOf c) (c .conditions) 0) ⌝ }
+    ensures { λ r. ⌜ AllHeldBy (now (kinds .entry)) (now (cells .entry)) carriers a c r ⌝ }
 {
     let n = c.conditions as usize;
     for j in 0..n {
-        if !condition_holds(kinds, cells, c, j, a) {
+        if !condition_holds(kinds, cells, carriers, c, j, a) {
             return false;
         }
     }

@@ -1,16 +1,11 @@
 // Running a command (document 01: a rule) on lent kinds and cells, and on a matrix by value; refusals 11 to 15.
 ghost use mathlib.Core.Path.{_≡_};
-ghost use mathlib.Core.Option.{some};
 ghost use Rattle.protection.specs.Limits.{rights};
-ghost use Rattle.protection.specs.Command.{valuesOf};
-ghost use Rattle.protection.specs.Execution.{bounded, executeCommand};
 ghost use Rattle.matrix.specs.Canonical.{Canonical};
-ghost use Rattle.matrix.specs.Bytes.{view};
 ghost use Rattle.matrix.specs.Matrices.{matrixOf};
-ghost use Rattle.commands.specs.Contents.{meaning};
 ghost use Rattle.commands.specs.Fits.{Fits};
 ghost use Rattle.policy.specs.Fits.{PolicyFits};
-ghost use Rattle.execution.specs.Runs.{OperationsApply, RanAs, executedOf, ExecutedAs, outcomeOf};
+ghost use Rattle.execution.specs.Runs.{OperationsApply, RanAs, executedOf, ExecutedAs, RunBy, outcomeOf};
 
 mod conditions;
 
@@ -93,17 +88,18 @@ fn run_all(
 fn run_command(
     kinds: &mut [u8; Matrix::NAMES],
     cells: &mut [u8; Matrix::NAMES * Matrix::NAMES],
+    carriers: [u8; Matrix::RIGHTS as usize],
     c: Command,
     a: [u8; Command::PARAMETERS],
     right: u8,
 ) -> Answer
     requires { ⌜ Canonical rights (now kinds) (now cells) × Fits rights c ⌝ }
-    ensures { λ r. ⌜ ExecutedAs right (executeCommand bounded (view (now (kinds .entry)) (now (cells .entry))) (some (meaning c)) (valuesOf a)) (matrixOf (now (kinds .entry)) (now (cells .entry))) (executedOf r (matrixOf (now (kinds .exit)) (now (cells .exit)))) ⌝ }
+    ensures { λ r. ⌜ RunBy carriers right (matrixOf (now (kinds .entry)) (now (cells .entry))) c a (executedOf r (matrixOf (now (kinds .exit)) (now (cells .exit)))) ⌝ }
 {
     if !conditions::actuals_fit(c, a) {
         return Answer::Refused(12);
     }
-    if !conditions::conditions_hold(kinds, cells, c, a) {
+    if !conditions::conditions_hold(kinds, cells, carriers, c, a) {
         return Answer::Refused(14);
     }
     let ran = run_all(kinds, cells, c, a, right);
@@ -136,7 +132,8 @@ pub fn call(
     let all = p.command;
     let i = command as usize;
     let c = all[i];
-    run_command(kinds, cells, c, a, right)
+    let carriers = p.carriers;
+    run_command(kinds, cells, carriers, c, a, right)
 }
 
 // The same on a matrix by value.

@@ -19,7 +19,7 @@ use safety::Judgement;
 use sheets::Entry;
 use trace::Replay;
 
-// The refusal of whoever wrote the file, 1 to 9, or 0.
+// The refusal of whoever wrote the file, 1 to 9 or 44, or 0.
 #[no_mangle]
 pub extern "C" fn access_check(file: &[u8]) -> u8
     ensures { λ r. ⌜ r ≡ refusal (now (file .entry)) ⌝ }

@@ -10,7 +10,7 @@ use lib.ListN.{length}
 use Rattle.cases.specs.Cases.{pick, all}
 use Rattle.cases.proofs.Loops.{all-at}
 use Rattle.protection.specs.Limits.{names, rights, commands, fileBytes}
-use Rattle.layout.specs.File.{rightsOf, pairsOf, offsetOf, lengthOf, pairsEnd, startOf}
+use Rattle.layout.specs.File.{rightsOf, pairsOf, offsetOf, lengthOf, pairsEnd, startOf, fixedPairs}
 use Rattle.layout.specs.Refusals.{orElse, headerRefusal, inPlace, pairsRefusal, sizesRefusal}
 
 -- ---- one test of a chain
@@ -32,8 +32,8 @@ pub record HeaderFits (f : List ℕ) : Type 0 where
   pub short : length f ≤ fileBytes
   pub some-right : 1 ≤ rightsOf f
   pub few-rights : rightsOf f ≤ rights
-  pub two-pairs : 2 ≤ pairsOf f
-  pub few-pairs : pairsOf f ≤ 2 + commands
+  pub fixed-pairs : fixedPairs ≤ pairsOf f
+  pub few-pairs : pairsOf f ≤ fixedPairs + commands
   pub table : pairsEnd f ≤ length f
 
 pub header-accepted : (f : List ℕ) → headerRefusal f ≡ 0 → HeaderFits f
@@ -43,16 +43,16 @@ header-accepted f e =
     let t2 = passed (ltb fileBytes (length f)) 0 _ (t1 .1) in
     let t3 = passed (ltb (rightsOf f) 1) 1 _ (t2 .1) in
     let t4 = passed (ltb rights (rightsOf f)) 1 _ (t3 .1) in
-    let t5 = passed (ltb (pairsOf f) 2) 2 _ (t4 .1) in
-    let t6 = passed (ltb (2 + commands) (pairsOf f)) 2 _ (t5 .1) in
+    let t5 = passed (ltb (pairsOf f) fixedPairs) 2 _ (t4 .1) in
+    let t6 = passed (ltb (fixedPairs + commands) (pairsOf f)) 2 _ (t5 .1) in
     let t7 = passed (ltb (length f) (pairsEnd f)) 0 _ (t6 .1) in
     record {
       long = ltb-false (length f) 2 (t1 .0);
       short = ltb-false fileBytes (length f) (t2 .0);
       some-right = ltb-false (rightsOf f) 1 (t3 .0);
       few-rights = ltb-false rights (rightsOf f) (t4 .0);
-      two-pairs = ltb-false (pairsOf f) 2 (t5 .0);
-      few-pairs = ltb-false (2 + commands) (pairsOf f) (t6 .0);
+      fixed-pairs = ltb-false (pairsOf f) fixedPairs (t5 .0);
+      few-pairs = ltb-false (fixedPairs + commands) (pairsOf f) (t6 .0);
       table = ltb-false (length f) (pairsEnd f) (t7 .0);
     }
 
@@ -84,9 +84,10 @@ sections-placed f e i l =
     let t2 = held (eqb (startOf f (pairsOf f)) (length f)) 3 _ (t1 .1) in
     placed-at f (pairsOf f) (t1 .0) (eqb-true (startOf f (pairsOf f)) (length f) (t2 .0)) i l
 
-pub sizes-accepted : (f : List ℕ) → sizesRefusal f ≡ 0 → (lengthOf f 0 ≡ names) × (lengthOf f 1 ≡ names * names)
+pub sizes-accepted : (f : List ℕ) → sizesRefusal f ≡ 0 → (lengthOf f 0 ≡ names) × (lengthOf f 1 ≡ names * names) × (lengthOf f 2 ≡ rightsOf f)
 unfolding sizesRefusal
 sizes-accepted f e =
     let t1 = held (eqb (lengthOf f 0) names) 4 _ e in
     let t2 = held (eqb (lengthOf f 1) (names * names)) 4 _ (t1 .1) in
-    (eqb-true (lengthOf f 0) names (t1 .0), eqb-true (lengthOf f 1) (names * names) (t2 .0))
+    let t3 = held (eqb (lengthOf f 2) (rightsOf f)) 4 _ (t2 .1) in
+    (eqb-true (lengthOf f 0) names (t1 .0), eqb-true (lengthOf f 1) (names * names) (t2 .0), eqb-true (lengthOf f 2) (rightsOf f) (t3 .0))

@@ -1,4 +1,4 @@
--- The tests of the reader's loop over the pairs. Assumes nothing.
+-- The tests of the reader's loop over the pairs, and of a length that the file itself gives. Assumes nothing.
 use Prim.Native.Nat.{ℕ, _+_, _*_, _-_, _≤_, _<_}
 use mathlib.Core.Path.{_≡_, refl, sym, ap, _∙_}
 use mathlib.Core.Bool.{Bool, true, false}
@@ -6,8 +6,10 @@ use mathlib.Core.List.{List}
 use native.Mathlib.Numerals.{add-one}
 use native.Mathlib.Omega.{arith}
 use borrow.Author.Tests.{ne-eqb, eq-eqb}
+use lib.Dec.{eqb}
 use lib.ListN.{length}
-use Rattle.cases.specs.Cases.{all}
+use Rattle.cases.specs.Cases.{pick, all}
+use Rattle.cases.proofs.Picks.{on-is, on-isnt}
 use Rattle.cases.proofs.Loops.{all-false, all-true, all-end}
 use Rattle.layout.specs.File.{word, pairsOf, offsetOf, startOf}
 use Rattle.layout.specs.Refusals.{inPlace, pairsRefusal}
@@ -46,3 +48,11 @@ module _ (f : List ℕ) (n i at : ℕ) (e : n ≡ pairsOf f) (l : i ≤ n) (g : 
   pub ends-right : at ≡ length f → 0 ≡ pairsRefusal f
   unfolding pairsRefusal
   ends-right q = let z = eq-eqb (startOf f (pairsOf f)) (length f) (sym ends ∙ q) in rw (all-placed, z)
+
+-- a number that a callee answered, r, compared with one that the caller has given, n
+module _ (r a n b x y z : ℕ) (d : r ≡ a) (e : n ≡ b) where
+  pub on-given : r ≡ n → x ≡ y → x ≡ pick (eqb a b) y z
+  on-given p = on-is r a b x y z d (p ∙ e)
+
+  pub on-not-given : (r ≡ n → ⊥) → x ≡ z → x ≡ pick (eqb a b) y z
+  on-not-given p = on-isnt r a b x y z d (λ q. p (q ∙ sym e))

@@ -38,15 +38,22 @@ startOf f (suc i) = offsetOf f i + lengthOf f i
 abbrev pub section : List ℕ → ℕ → List ℕ
 section f i = take (lengthOf f i) (drop (offsetOf f i) f)
 
--- "Pair 0, kinds"; "Pair 1, cells"; "Every further pair is a rule, numbered from 0"
+-- "Pair 0, kinds"; "Pair 1, cells"; "a pair between cells and rules" (document 02, C-19), the carries; "Every further pair is a rule, numbered from 0"
 abbrev pub kindsIn : List ℕ → List ℕ
 kindsIn f = section f 0
 
 abbrev pub cellsIn : List ℕ → List ℕ
 cellsIn f = section f 1
 
+abbrev pub carriesIn : List ℕ → List ℕ
+carriesIn f = section f 2
+
+-- pairs before the first rule's
+abbrev pub fixedPairs : ℕ
+fixedPairs = 3
+
 abbrev pub commandIn : List ℕ → ℕ → List ℕ
-commandIn f i = section f (2 + i)
+commandIn f i = section f (fixedPairs + i)
 
 abbrev pub commandsOf : List ℕ → ℕ
-commandsOf f = pairsOf f - 2
+commandsOf f = pairsOf f - fixedPairs

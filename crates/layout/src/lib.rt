@@ -2,7 +2,7 @@
 ghost use mathlib.Core.Path.{_≡_};
 ghost use Prim.Native.Nat.{_+_, _*_, _≤_, _<_};
 ghost use lib.ListN.{length};
-ghost use Rattle.layout.specs.File.{words, word, pairsOf};
+ghost use Rattle.layout.specs.File.{words, word, rightsOf, pairsOf, fixedPairs};
 ghost use Rattle.layout.specs.Refusals.{headerRefusal, pairsRefusal, sizesRefusal};
 use matrix::Matrix;
 
@@ -12,8 +12,13 @@ pub const BYTES: usize = 4096;
 // Commands of a file.
 pub const COMMANDS: usize = 32;
 
-// One pair each for the kinds and the cells, and one for each command.
-const PAIRS: u8 = 2 + COMMANDS as u8;
+// Pairs before the first command's: the kinds, the cells and the carries.
+pub const FIXED: usize = 3;
+
+// The fewest pairs, and the most: one more for each command.
+const FEWEST: u8 = FIXED as u8;
+
+const MOST: u8 = FEWEST + COMMANDS as u8;
 
 // The refusal of the first bytes, or 0.
 pub fn header_refusal(file: &[u8]) -> u8
@@ -33,10 +38,10 @@ pub fn header_refusal(file: &[u8]) -> u8
         return 2;
     }
     let n = file[1];
-    if n < 2 {
+    if n < FEWEST {
         return 3;
     }
-    if PAIRS < n {
+    if MOST < n {
         return 3;
     }
     if file.len() < 2 + 4 * (n as usize) {
@@ -73,9 +78,9 @@ pub fn pairs_refusal(file: &[u8], pairs: usize) -> u8
     0
 }
 
-// The refusal of the lengths of kinds and cells, or 0.
-pub fn sizes_refusal(file: &[u8]) -> u8
-    requires { ⌜ 2 + 4 * 2 ≤ length (now file) ⌝ }
+// The refusal of the lengths of kinds, cells and carries, or 0.
+pub fn sizes_refusal(file: &[u8], g: u8) -> u8
+    requires { ⌜ (g ≡ rightsOf (now file)) × (2 + 4 * fixedPairs ≤ length (now file)) ⌝ }
     ensures { λ r. ⌜ r ≡ sizesRefusal (now (file .entry)) ⌝ }
 {
     let kinds = word_at(file, 4);
@@ -84,6 +89,10 @@ pub fn sizes_refusal(file: &[u8]) -> u8
     }
     let cells = word_at(file, 8);
     if cells != Matrix::NAMES * Matrix::NAMES {
+        return 5;
+    }
+    let carries = word_at(file, 12);
+    if carries != g as usize {
         return 5;
     }
     0

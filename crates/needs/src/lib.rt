@@ -96,7 +96,8 @@ fn needed(p: Policy, basis: Basis, list: &[u8], buffer: &mut [u8]) -> Need
     let matrix = p.matrix;
     let mut kinds = matrix.kinds;
     let mut cells = matrix.cells;
-    let tables = masks::build(&cells);
+    let carried = p.carried;
+    let tables = masks::build(&cells, &carried);
     let mut row = tables.row;
     let mut col = tables.col;
     let goal = Goal::held(list);

@@ -126,6 +126,6 @@ unfolding dropped
 drop-end z x m m₀ h e = iterate-end (dropAt z) 32 (iterate (dropAt z) 32 0 m₀) x m h e
 
 pub part-is : (p : Policy) (z : ℕ) (ks cs : List ℕ) → matrixOf ks cs ≡ dropped (matrixOf (p .matrix .kinds) (p .matrix .cells)) z
-    → _≡_ {A = Policy} (record { rights = p .rights; commands = p .commands; matrix = record { kinds = ks; cells = cs }; command = p .command }) (partOf p z)
+    → _≡_ {A = Policy} (record { rights = p .rights; commands = p .commands; matrix = record { kinds = ks; cells = cs }; carries = p .carries; carried = p .carried; carriers = p .carriers; command = p .command }) (partOf p z)
 unfolding partOf
-part-is p z ks cs e = ap (λ (m : Matrix). record { rights = p .rights; commands = p .commands; matrix = m; command = p .command }) e
+part-is p z ks cs e = ap (λ (m : Matrix). record { rights = p .rights; commands = p .commands; matrix = m; carries = p .carries; carried = p .carried; carriers = p .carriers; command = p .command }) e

@@ -30,6 +30,9 @@ use Rattle.layout.proofs.Accepted.{or-else}
 use Rattle.layout.proofs.OrElse.{or-first, or-second}
 use Rattle.policy.specs.Contents.{systemOf, policyOf, policyRead, fileState, fileSystem}
 use Rattle.policy.specs.Fits.{PolicyFits}
+use Rattle.masks.specs.Told.{Told, ToldBy}
+use Rattle.masks.specs.declared.Tables.{Tables}
+use Rattle.questions.proofs.Starting.{policy-told}
 use Rattle.policy.specs.declared.Policy.{Policy}
 use Rattle.policy.specs.declared.PolicyRead.{PolicyRead}
 use Rattle.policy.proofs.ReadPolicy.{policy-fits-read}
@@ -228,6 +231,9 @@ module _ (f : List ℕ) (r : ℕ) (l b : List ℕ) where
             few-commands = fits .few-commands;
             matrix-fits = dropped-canonical (p .rights) (p .matrix) (fits .matrix-fits) (t .mask);
             commands-fit = fits .commands-fit;
+            carries-fit = fits .carries-fit;
+            carried-is = fits .carried-is;
+            carriers-is = fits .carriers-is;
           }
 
           size : Sized (systemOf p) m (length b)
@@ -265,6 +271,9 @@ module _ (p : Policy) (z r : ℕ) (q : Policy) (e : q ≡ partOf p z) where
 
   pub without-fits : (n : ℕ) → Asked (partOf p z) (leakGoal z r) n → PolicyFits q
   without-fits n A = without-asked n A .fits
+
+  pub without-told : (n : ℕ) → Asked (partOf p z) (leakGoal z r) n → (t : Tables) → ToldBy (q .carried) (q .matrix .cells) t → Told (systemOf q) (q .matrix .cells) t
+  without-told n A t h = policy-told q (q .matrix .cells) t (without-fits n A) h
 
   pub without-below : r < p .rights → r < q .rights
   unfolding partOf

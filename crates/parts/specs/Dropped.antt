@@ -29,4 +29,4 @@ unfoldable pub dropped : Matrix → ℕ → Matrix
 dropped m z = iterate (dropAt z) names 0 m
 
 unfoldable pub partOf : Policy → ℕ → Policy
-partOf p z = record { rights = p .rights; commands = p .commands; matrix = dropped (p .matrix) z; command = p .command }
+partOf p z = record { rights = p .rights; commands = p .commands; matrix = dropped (p .matrix) z; carries = p .carries; carried = p .carried; carriers = p .carriers; command = p .command }

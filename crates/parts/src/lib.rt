@@ -99,11 +99,17 @@ fn part_of(p: Policy, mask: u32) -> Policy
     let mut cells = matrix.cells;
     drop_names(&mut kinds, &mut cells, mask);
     let part = Matrix { kinds, cells };
+    let carries = p.carries;
+    let carried = p.carried;
+    let carriers = p.carriers;
     let command = p.command;
     Policy {
         rights: p.rights,
         commands: p.commands,
         matrix: part,
+        carries,
+        carried,
+        carriers,
         command,
     }
 }
@@ -116,7 +122,8 @@ fn judge_without(p: Policy, mask: u32, right: u8, buffer: &mut [u8]) -> Judgemen
     let part = part_of(p, mask);
     let basis = questions::basis_of(part);
     let start = part.matrix;
-    let tables = masks::build(&start.cells);
+    let carried = part.carried;
+    let tables = masks::build(&start.cells, &carried);
     safety::judge(part, basis, tables, mask, right, buffer)
 }
 

@@ -7,9 +7,10 @@ use native.Mathlib.Decide.{ℕ-discrete}
 use native.Mathlib.Omega.{arith}
 use Rattle.cases.specs.Cases.{all}
 use Rattle.protection.specs.Limits.{names}
-use Rattle.layout.specs.File.{rightsOf, kindsIn, cellsIn, commandIn, commandsOf}
+use Rattle.layout.specs.File.{rightsOf, kindsIn, cellsIn, carriesIn, commandIn, commandsOf}
 use Rattle.layout.specs.Refusals.{headerRefusal, pairsRefusal, sizesRefusal}
 use Rattle.layout.proofs.Accepted.{held, or-else, HeaderFits, header-accepted}
+use Rattle.carries.specs.Refusals.{carriesRefusal}
 use Rattle.commands.specs.Refusals.{commandRefusal}
 use Rattle.commands.proofs.Accepted.{CommandFits, command-accepted}
 use Rattle.matrix.specs.Refusals.{kindFits, cellFits, matrixRefusal}
@@ -41,6 +42,7 @@ pub record Accepted (f : List ℕ) : Type 0 where
   pub pairs : pairsRefusal f ≡ 0
   pub sizes : sizesRefusal f ≡ 0
   pub matrix : matrixRefusal (rightsOf f) (kindsIn f) (cellsIn f) ≡ 0
+  pub carries : carriesRefusal (rightsOf f) (carriesIn f) ≡ 0
   pub commands-passed : commandsRefusal f (commandsOf f) 0 ≡ 0
   pub commands : (i : ℕ) → i < commandsOf f → CommandFits (rightsOf f) (commandIn f i)
 
@@ -50,13 +52,15 @@ accepted f e =
     let t1 = or-else (headerRefusal f) _ e in
     let t2 = or-else (pairsRefusal f) _ (t1 .1) in
     let t3 = or-else (sizesRefusal f) _ (t2 .1) in
-    let t4 = or-else (matrixRefusal (rightsOf f) (kindsIn f) (cellsIn f)) (commandsRefusal f (commandsOf f) 0) (t3 .1) in
+    let t4 = or-else (matrixRefusal (rightsOf f) (kindsIn f) (cellsIn f)) _ (t3 .1) in
+    let t5 = or-else (carriesRefusal (rightsOf f) (carriesIn f)) (commandsRefusal f (commandsOf f) 0) (t4 .1) in
     record {
       header = header-accepted f (t1 .0);
       header-passed = t1 .0;
-      commands-passed = t4 .1;
+      commands-passed = t5 .1;
       pairs = t2 .0;
       sizes = t3 .0;
       matrix = t4 .0;
-      commands = λ i l. command-accepted (rightsOf f) (commandIn f i) (commands-accepted f (commandsOf f) 0 (t4 .1) i (omega arith) (omega arith));
+      carries = t5 .0;
+      commands = λ i l. command-accepted (rightsOf f) (commandIn f i) (commands-accepted f (commandsOf f) 0 (t5 .1) i (omega arith) (omega arith));
     }

@@ -11,7 +11,7 @@ use lib.ListN.{length, getD, take, drop, length-drop, take-append-drop, List·ge
 use lib.Pow.{pow-pos}
 use lib.Seq.{length-take-le, drop-drop}
 use Rattle.cases.specs.Cases.{pick, all}
-use Rattle.cases.proofs.Lists.{getD-tabulate}
+use Rattle.cases.proofs.Lists.{length-tabulate, getD-tabulate}
 use Rattle.cases.proofs.Loops.{all-at}
 use Rattle.rights.specs.Rights.{within}
 use Rattle.protection.specs.Limits.{names, rights, commands}
@@ -20,8 +20,11 @@ use Rattle.matrix.specs.Bytes.{inside, view, kindsOf, cellsOf}
 use Rattle.protection.specs.Proper.{Proper}
 use Rattle.matrix.specs.Canonical.{Canonical}
 use Rattle.matrix.proofs.Inverse.{view-proper, kinds-back, cells-back}
-use Rattle.layout.specs.File.{byte, rightsOf, pairsOf, offsetOf, lengthOf, startOf, section, kindsIn, cellsIn, commandIn, commandsOf}
+use Rattle.layout.specs.File.{byte, rightsOf, pairsOf, offsetOf, lengthOf, startOf, section, kindsIn, cellsIn, carriesIn, fixedPairs, commandIn, commandsOf}
 use Rattle.matrix.specs.Refusals.{kindFits, cellFits}
+use Rattle.carries.specs.Bytes.{carriesTable}
+use Rattle.carries.proofs.Sets.{getD-table}
+use Rattle.carries.proofs.Refusing.{carries-accepted}
 use Rattle.policy.specs.Refusals.{refusal}
 use Rattle.policy.specs.Contents.{over, written, fileState, commandTable, policyOf}
 use Rattle.policy.specs.Fits.{PolicyFits}
@@ -56,20 +59,20 @@ cell-facts g ks cs c e = go (within (byte cs c) g) (inside ks (c / names) (c % n
     go false b d e = absurd (let z : _≡_ {A = ℕ} 0 1 = cc in omega arith)
 
 module _ (f : List ℕ) (A : Accepted f) where
-  two : 2 ≤ pairsOf f
-  two = A .header .two-pairs
+  fixed : fixedPairs ≤ pairsOf f
+  fixed = A .header .fixed-pairs
 
   kinds-inside : offsetOf f 0 + names ≤ length f
-  kinds-inside = let z = sizes-accepted f (A .sizes) .0 in let e = pairs-accepted f (A .pairs) 0 (omega (arith, two)) in omega arith
+  kinds-inside = let z = sizes-accepted f (A .sizes) .0 in let e = pairs-accepted f (A .pairs) 0 (omega (arith, fixed)) in omega arith
 
   cells-inside : offsetOf f 1 + names * names ≤ length f
-  cells-inside = let z = sizes-accepted f (A .sizes) .1 in let e = pairs-accepted f (A .pairs) 1 (omega (arith, two)) in omega arith
+  cells-inside = let z = sizes-accepted f (A .sizes) .1 in let e = pairs-accepted f (A .pairs) 1 (omega (arith, fixed)) in omega arith
 
   pub kinds-length : length (kindsIn f) ≡ names
-  kinds-length = section-length f 0 (pairs-accepted f (A .pairs) 0 (omega (arith, two))) ∙ sizes-accepted f (A .sizes) .0
+  kinds-length = section-length f 0 (pairs-accepted f (A .pairs) 0 (omega (arith, fixed))) ∙ sizes-accepted f (A .sizes) .0
 
   pub cells-length : length (cellsIn f) ≡ names * names
-  cells-length = section-length f 1 (pairs-accepted f (A .pairs) 1 (omega (arith, two))) ∙ sizes-accepted f (A .sizes) .1
+  cells-length = section-length f 1 (pairs-accepted f (A .pairs) 1 (omega (arith, fixed))) ∙ sizes-accepted f (A .sizes) .1
 
   kind-fits : (x : ℕ) → getD (kindsIn f) x 0 ≤ 2
   kind-fits x = go (decLt x names)
@@ -93,6 +96,21 @@ module _ (f : List ℕ) (A : Accepted f) where
           let e = cells-length in
           let z : getD (cellsIn f) c 0 ≡ 0 = List·getD-eq-default (cellsIn f) 0 {n = c} (omega arith) in
           rw z (pow-pos (rightsOf f))
+
+  pub carries-length : length (carriesIn f) ≡ rightsOf f
+  carries-length = section-length f 2 (pairs-accepted f (A .pairs) 2 (omega (arith, fixed))) ∙ sizes-accepted f (A .sizes) .2
+
+  carry-fits : (i : ℕ) → getD (carriesTable (carriesIn f)) i 0 < 2 ^ rightsOf f
+  carry-fits i = inside-table (decLt i rights)
+    where
+      byte-fits : Dec (i < rightsOf f) → getD (carriesIn f) i 0 < 2 ^ rightsOf f
+      byte-fits (yes l) = carries-accepted (rightsOf f) (carriesIn f) (A .carries) i l
+      byte-fits (no l) = rw (List·getD-eq-default (carriesIn f) 0 {n = i} (omega (arith, carries-length))) (pow-pos (rightsOf f))
+
+      inside-table : Dec (i < rights) → getD (carriesTable (carriesIn f)) i 0 < 2 ^ rightsOf f
+      inside-table (yes l) = rw (getD-table (λ j. getD (carriesIn f) j 0) i l) (byte-fits (decLt i (rightsOf f)))
+      inside-table (no l) =
+          rw (List·getD-eq-default (carriesTable (carriesIn f)) 0 {n = i} (omega (arith, length-tabulate (λ j. getD (carriesIn f) j 0) rights 0))) (pow-pos (rightsOf f))
 
   cell-outside : (s o : ℕ) → s < names → o < names → T (not (inside (kindsIn f) s o)) → getD (cellsIn f) (names * s + o) 0 ≡ 0
   cell-outside s o ls lo t =
@@ -118,8 +136,8 @@ module _ (f : List ℕ) (A : Accepted f) where
   unfolding written
   written-back =
       ap₂ (λ (k c : List ℕ). over (over f (offsetOf f 0) k) (offsetOf f 1) c) file-kinds file-cells
-      ∙ ap (λ (l : List ℕ). over l (offsetOf f 1) (cellsIn f)) (over-section f (offsetOf f 0) (lengthOf f 0) (pairs-accepted f (A .pairs) 0 (omega (arith, two))))
-      ∙ over-section f (offsetOf f 1) (lengthOf f 1) (pairs-accepted f (A .pairs) 1 (omega (arith, two)))
+      ∙ ap (λ (l : List ℕ). over l (offsetOf f 1) (cellsIn f)) (over-section f (offsetOf f 0) (lengthOf f 0) (pairs-accepted f (A .pairs) 0 (omega (arith, fixed))))
+      ∙ over-section f (offsetOf f 1) (lengthOf f 1) (pairs-accepted f (A .pairs) 1 (omega (arith, fixed)))
 
 -- ---- and so is the policy that the reader hands out
 pub policy-fits : (f : List ℕ) → Accepted f → PolicyFits (policyOf f)
@@ -129,6 +147,9 @@ policy-fits f A = record {
   few-rights = A .header .few-rights;
   few-commands = omega (arith, A .header .few-pairs);
   matrix-fits = file-canonical f A;
+  carries-fit = carry-fits f A;
+  carried-is = refl;
+  carriers-is = refl;
   commands-fit = λ i l. subst (Fits (rightsOf f)) (sym (at i l)) (command-fits (rightsOf f) (commandIn f i) (A .commands i l));
 }
   where

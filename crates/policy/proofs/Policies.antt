@@ -8,20 +8,26 @@ use native.Mathlib.Numerals.{add-one}
 use native.Mathlib.Omega.{arith}
 use borrow.Author.Tests.{ne-eqb, eq-eqb, lt-ltb, le-ltb}
 use lib.Dec.{eqb, ltb}
-use lib.ListN.{length, getD, take, drop, set, replicate, length-drop, length-replicate, length-set, drop-of-length-le}
-use lib.Seq.{take-length, length-take-le, ext-getD, getD-set-same, getD-set-other}
+use lib.ListN.{length, getD, take, drop, set, replicate, length-append, length-drop, length-replicate, length-set, getD-replicate, drop-of-length-le, List·getD-append, List·getD-eq-default}
+use lib.Seq.{take-length, length-take-le, ext-getD, getD-append-add, getD-set-same, getD-set-other}
 use Rattle.cases.specs.Cases.{pick, tabulate}
 use Rattle.cases.proofs.Lists.{length-tabulate, getD-tabulate}
-use Rattle.protection.specs.Limits.{names, commands}
+use Rattle.protection.specs.Limits.{names, rights, commands}
 use Rattle.matrix.specs.Matrices.{emptyMatrix}
 use Rattle.matrix.specs.declared.Matrix.{Matrix}
-use Rattle.layout.specs.File.{byte, word, rightsOf, offsetOf, lengthOf, section, kindsIn, cellsIn, commandIn}
+use Rattle.layout.specs.File.{byte, word, rightsOf, offsetOf, lengthOf, section, kindsIn, cellsIn, carriesIn, fixedPairs, commandIn}
 use Rattle.layout.specs.Refusals.{orElse, headerRefusal, pairsRefusal, sizesRefusal}
 use Rattle.commands.specs.Refusals.{commandRefusal}
 use Rattle.matrix.specs.Refusals.{matrixRefusal}
 use Rattle.policy.specs.Refusals.{commandsRefusal, refusal}
-use Rattle.policy.specs.Layout.{MatrixInside, CommandsInside}
-use Rattle.commands.specs.Contents.{noCommand, commandOf, commandRead}
+use Rattle.policy.specs.Layout.{MatrixInside, CarriesInside, CommandsInside}
+use Rattle.carries.specs.Bytes.{carriesTable}
+use Rattle.carries.specs.Refusals.{carriesRefusal}
+use Rattle.carries.specs.Closed.{carriedOf, carriersOf}
+use Rattle.carries.proofs.Sets.{getD-table}
+use Rattle.carries.proofs.Refusing.{table-refusal}
+use Rattle.commands.proofs.Contents.{copied as padded-copy}
+use Rattle.commands.specs.Contents.{padded, noCommand, commandOf, commandRead}
 use Rattle.policy.specs.Contents.{noPolicy, commandTable, commandsRead, matrixIn, policyOf, refusedRead, policyRead}
 use Rattle.layout.proofs.Accepted.{HeaderFits, header-accepted, pairs-accepted, sizes-accepted}
 use Rattle.commands.specs.declared.Command.{Command}
@@ -31,7 +37,7 @@ use Rattle.policy.specs.declared.Policy.{Policy}
 use Rattle.policy.specs.declared.PolicyRead.{PolicyRead}
 
 pub none-is : (m : Matrix) (c : Command) → m ≡ emptyMatrix → c ≡ noCommand
-    → _≡_ {A = Policy} (record { rights = 0; commands = 0; matrix = m; command = replicate commands c }) noPolicy
+    → _≡_ {A = Policy} (record { rights = 0; commands = 0; matrix = m; carries = replicate rights 0; carried = replicate rights 0; carriers = replicate rights 0; command = replicate commands c }) noPolicy
 none-is m c e d = rw (e, d)
 
 pub refused-is : (n : ℕ) (p : Policy) → p ≡ noPolicy → _≡_ {A = PolicyRead} (record { refused = n; policy = p }) (refusedRead n)
@@ -57,6 +63,37 @@ matrix-is f x y w v h dw dv ex ey =
     let a : x ≡ section f 0 = copied f x 0 w 32 dw ks (omega arith) ex in
     let b : y ≡ section f 1 = copied f y 1 v 1024 dv cs (omega arith) ey in
     rw (a, b)
+
+-- ---- the carries
+table-padded : (s : List ℕ) → length s ≤ rights → padded rights s ≡ carriesTable s
+table-padded s h =
+    ext-getD 0 (padded rights s) (carriesTable s) (length-padded ∙ sym (length-tabulate (λ i. getD s i 0) rights 0))
+    (λ i l. at i (decLt i (length s)) ∙ sym (getD-table (λ j. getD s j 0) i (omega (arith, length-padded))))
+  where
+    length-padded : length (padded rights s) ≡ rights
+    length-padded = simp (length-append, length-replicate) (omega arith)
+
+    at : (i : ℕ) → Dec (i < length s) → getD (padded rights s) i 0 ≡ getD s i 0
+    at i (yes l) = List·getD-append s (replicate (rights - length s) 0) 0 i l
+    at i (no l) =
+        let z : length s + (i - length s) ≡ i = omega arith in
+        ap (λ (j : ℕ). getD (padded rights s) j 0) (sym z) ∙ getD-append-add s (replicate (rights - length s) 0) (i - length s) 0
+        ∙ none (decLt (i - length s) (rights - length s)) ∙ sym (List·getD-eq-default s 0 {n = i} (omega arith))
+      where
+        none : Dec (i - length s < rights - length s) → _≡_ {A = ℕ} (getD (replicate (rights - length s) 0) (i - length s) 0) 0
+        none (yes k) = getD-replicate (rights - length s) (i - length s) 0 0 k
+        none (no k) = List·getD-eq-default (replicate (rights - length s) 0) 0 {n = i - length s} (omega (arith, length-replicate {A = ℕ} (rights - length s) 0))
+
+pub carries-copied : (f x : List ℕ) (g w : ℕ) → CarriesInside f g → w ≡ word f 10
+    → x ≡ take (length (take (w + g - w) (drop w f))) (take (w + g - w) (drop w f)) ++ drop (length (take (w + g - w) (drop w f))) (replicate 8 0)
+    → x ≡ carriesTable (carriesIn f)
+carries-copied f x g w h d e =
+    let n = h .size in let k = h .end in let m = h .few in
+    let u : w + g - w ≡ g = omega arith in
+    let s : List ℕ = take (w + g - w) (drop w f) in
+    let z : s ≡ carriesIn f = ap₂ (λ (a b : ℕ). take a (drop b f)) (u ∙ sym n) d in
+    let l : length s ≡ w + g - w = length-take-le (w + g - w) (drop w f) (simp length-drop (omega arith)) in
+    padded-copy rights s x (omega arith) e ∙ table-padded s (omega arith) ∙ ap carriesTable z
 
 -- ---- the commands
 abbrev tableAt : List ℕ → ℕ → ℕ → Command
@@ -93,7 +130,7 @@ table-set f i h =
         ∙ sym (getD-tabulate (tableAt f (i + 1)) noCommand commands 0 i h ∙ rw (lt-ltb (0 + i) (i + 1) (omega arith), z)))
 
 -- ---- one turn of the reader's loop
-pub part-is : (f : List ℕ) (g i w v : ℕ) (x : CommandRead) → w ≡ offsetOf f (2 + i) → v ≡ lengthOf f (2 + i) → x ≡ commandRead g (take (w + v - w) (drop w f)) → x ≡ commandRead g (commandIn f i)
+pub part-is : (f : List ℕ) (g i w v : ℕ) (x : CommandRead) → w ≡ offsetOf f (fixedPairs + i) → v ≡ lengthOf f (fixedPairs + i) → x ≡ commandRead g (take (w + v - w) (drop w f)) → x ≡ commandRead g (commandIn f i)
 part-is f g i w v x d e q =
     let u : w + v - w ≡ v = omega arith in q ∙ ap₂ (λ (a b : ℕ). commandRead g (take a (drop b f))) (u ∙ e) d
 
@@ -176,7 +213,7 @@ module _ (f : List ℕ) (h : ℕ) (dh : h ≡ headerRefusal f) where
 
             pub matrix-inside : MatrixInside f
             matrix-inside =
-                let k = header-fits .two-pairs in let l = header-fits .table in
+                let k = header-fits .fixed-pairs in let l = header-fits .table in
                 let z = sizes-accepted f sizes-none in
                 record {
                   pairs = omega arith;
@@ -186,12 +223,17 @@ module _ (f : List ℕ) (h : ℕ) (dh : h ≡ headerRefusal f) where
                   cells-end = pairs-accepted f pairs-none 1 (omega arith);
                 }
 
-            pub commands-inside : CommandsInside f (byte f 1 - 2)
+            pub carries-inside : CarriesInside f (byte f 0)
+            carries-inside =
+                let k = header-fits .fixed-pairs in let l = header-fits .table in
+                record { pairs = omega arith; few = header-fits .few-rights; size = sizes-accepted f sizes-none .2; end = pairs-accepted f pairs-none 2 (omega arith) }
+
+            pub commands-inside : CommandsInside f (byte f 1 - fixedPairs)
             commands-inside =
                 let k = header-fits .few-pairs in let l = header-fits .table in
                 record {
                   few = omega arith;
-                  all = λ i lt. record { pair = omega arith; end = pairs-accepted f pairs-none (2 + i) (omega arith) };
+                  all = λ i lt. record { pair = omega arith; end = pairs-accepted f pairs-none (fixedPairs + i) (omega arith) };
                 }
 
             module _ (m : Matrix) (c : ℕ) (dm : m ≡ matrixIn f) (dc : c ≡ matrixRefusal (rightsOf f) (m .kinds) (m .cells)) where
@@ -204,24 +246,38 @@ module _ (f : List ℕ) (h : ℕ) (dh : h ≡ headerRefusal f) where
                   let z : eqb c 0 ≡ false = ne-eqb c 0 ne in
                   e ∙ sym (rw (header-none, pairs-none, sizes-none, ← matrix-is-none, z, z))
 
-              module _ (zc : c ≡ 0) (r : CommandsRead) (dr : r ≡ commandsRead f (byte f 1 - 2)) where
-                refusal-rest : refusal f ≡ r .refused
-                unfolding refusal commandsRead
-                refusal-rest =
-                    let n : matrixRefusal (rightsOf f) (kindsIn f) (cellsIn f) ≡ 0 = sym matrix-is-none ∙ zc in
-                    rw (header-none, pairs-none, sizes-none, n) (sym (ap (λ (z : CommandsRead). z .refused) dr))
+              module _ (zc : c ≡ 0) (a : List ℕ) (b : ℕ) (da : a ≡ carriesTable (carriesIn f)) (db : b ≡ carriesRefusal (rightsOf f) a) where
+                matrix-none : matrixRefusal (rightsOf f) (kindsIn f) (cellsIn f) ≡ 0
+                matrix-none = sym matrix-is-none ∙ zc
 
-                pub commands-stop-all : (x : PolicyRead) → (r .refused ≡ 0 → ⊥) → x ≡ refusedRead (r .refused) → x ≡ policyRead f
-                unfolding policyRead
-                commands-stop-all x ne e =
-                    let z : eqb (r .refused) 0 ≡ false = ne-eqb (r .refused) 0 ne in
-                    e ∙ sym (rw (refusal-rest, z))
+                carries-refused : b ≡ carriesRefusal (rightsOf f) (carriesIn f)
+                carries-refused = db ∙ ap (carriesRefusal (rightsOf f)) da ∙ table-refusal (rightsOf f) (carriesIn f) (header-fits .few-rights)
 
-                pub all-read : r .refused ≡ 0
-                    → _≡_ {A = PolicyRead} (record { refused = 0; policy = record { rights = byte f 0; commands = byte f 1 - 2; matrix = m; command = r .all } }) (policyRead f)
-                unfolding policyRead policyOf commandsRead
-                all-read zr =
-                    let w : refusal f ≡ 0 = refusal-rest ∙ zr in
-                    let k : commandsRefusal f (byte f 1 - 2) 0 ≡ 0 = sym (ap (λ (z : CommandsRead). z .refused) dr) ∙ zr in
-                    let a : r .all ≡ commandTable f (byte f 1 - 2) = ap (λ (z : CommandsRead). z .all) dr ∙ rw k in
-                    rw (w, dm, a)
+                pub carries-stop : (x : PolicyRead) → (b ≡ 0 → ⊥) → x ≡ refusedRead b → x ≡ policyRead f
+                unfolding policyRead refusal
+                carries-stop x ne e =
+                    let z : eqb b 0 ≡ false = ne-eqb b 0 ne in
+                    e ∙ sym (rw (header-none, pairs-none, sizes-none, matrix-none, ← carries-refused, z, z))
+
+                module _ (zb : b ≡ 0) (r : CommandsRead) (dr : r ≡ commandsRead f (byte f 1 - fixedPairs)) where
+                  refusal-rest : refusal f ≡ r .refused
+                  unfolding refusal commandsRead
+                  refusal-rest =
+                      let k : carriesRefusal (rightsOf f) (carriesIn f) ≡ 0 = sym carries-refused ∙ zb in
+                      rw (header-none, pairs-none, sizes-none, matrix-none, k) (sym (ap (λ (z : CommandsRead). z .refused) dr))
+
+                  pub commands-stop-all : (x : PolicyRead) → (r .refused ≡ 0 → ⊥) → x ≡ refusedRead (r .refused) → x ≡ policyRead f
+                  unfolding policyRead
+                  commands-stop-all x ne e =
+                      let z : eqb (r .refused) 0 ≡ false = ne-eqb (r .refused) 0 ne in
+                      e ∙ sym (rw (refusal-rest, z))
+
+                  pub all-read : r .refused ≡ 0 → (v w : List ℕ) → v ≡ carriedOf (byte f 0) a → ((g : ℕ) (l : List ℕ) → v ≡ carriedOf g l → w ≡ carriersOf g l)
+                      → _≡_ {A = PolicyRead} (record { refused = 0; policy = record { rights = byte f 0; commands = byte f 1 - fixedPairs; matrix = m; carries = a; carried = v; carriers = w; command = r .all } }) (policyRead f)
+                  unfolding policyRead policyOf commandsRead
+                  all-read zr v w dv dw =
+                      let u : refusal f ≡ 0 = refusal-rest ∙ zr in
+                      let k : commandsRefusal f (byte f 1 - fixedPairs) 0 ≡ 0 = sym (ap (λ (z : CommandsRead). z .refused) dr) ∙ zr in
+                      let t : r .all ≡ commandTable f (byte f 1 - fixedPairs) = ap (λ (z : CommandsRead). z .all) dr ∙ rw k in
+                      let y : w ≡ carriersOf (byte f 0) a = dw (byte f 0) a dv in
+                      rw (u, dm, t, y, dv, da)

@@ -31,7 +31,7 @@ module _ (f : List ℕ) (x : PolicyRead) (d : x ≡ policyRead f) (z : x .refuse
 
   pub matrix-inside : MatrixInside f
   matrix-inside =
-      let k = accepted-file .header .two-pairs in let l = accepted-file .header .table in
+      let k = accepted-file .header .fixed-pairs in let l = accepted-file .header .table in
       let s = sizes-accepted f (accepted-file .sizes) in
       record {
         pairs = omega arith;

@@ -20,8 +20,9 @@ use Rattle.matrix.specs.Bytes.{inside, view, kindsOf, cellsOf}
 use Rattle.protection.specs.Proper.{Proper}
 use Rattle.matrix.specs.Canonical.{Canonical}
 use Rattle.matrix.proofs.Inverse.{view-back, written-canonical}
-use Rattle.layout.specs.File.{byte, word, rightsOf, pairsOf, offsetOf, lengthOf, pairsEnd, startOf, section, kindsIn, cellsIn, commandIn, commandsOf}
+use Rattle.layout.specs.File.{byte, word, rightsOf, pairsOf, offsetOf, lengthOf, pairsEnd, startOf, section, kindsIn, cellsIn, carriesIn, fixedPairs, commandIn, commandsOf}
 use Rattle.layout.specs.Refusals.{orElse, headerRefusal, inPlace, pairsRefusal, sizesRefusal}
+use Rattle.carries.specs.Refusals.{carriesRefusal}
 use Rattle.commands.specs.Refusals.{commandRefusal}
 use Rattle.matrix.specs.Refusals.{kindFits, cellFits, matrixRefusal}
 use Rattle.policy.specs.Refusals.{commandsRefusal, refusal}
@@ -74,19 +75,19 @@ module _ (f : List ℕ) (A : Accepted f) (m : State) (P : Proper (rightsOf f) m)
   K : Canonical (rightsOf f) (kindsOf m) (cellsOf m)
   K = written-canonical (rightsOf f) m P
 
-  two : 2 ≤ pairsOf f
-  two = A .header .two-pairs
+  fixed : fixedPairs ≤ pairsOf f
+  fixed = A .header .fixed-pairs
 
   kinds-at : offsetOf f 0 ≡ pairsEnd f
   unfolding startOf
-  kinds-at = sections-placed f (A .pairs) 0 (omega (arith, two))
+  kinds-at = sections-placed f (A .pairs) 0 (omega (arith, fixed))
 
   cells-at : offsetOf f 1 ≡ offsetOf f 0 + names
   unfolding startOf
-  cells-at = sections-placed f (A .pairs) 1 (omega (arith, two)) ∙ ap (λ (n : ℕ). offsetOf f 0 + n) (sizes-accepted f (A .sizes) .0)
+  cells-at = sections-placed f (A .pairs) 1 (omega (arith, fixed)) ∙ ap (λ (n : ℕ). offsetOf f 0 + n) (sizes-accepted f (A .sizes) .0)
 
   cells-end : offsetOf f 1 + names * names ≤ length f
-  cells-end = let z = sizes-accepted f (A .sizes) .1 in let e = pairs-accepted f (A .pairs) 1 (omega (arith, two)) in omega arith
+  cells-end = let z = sizes-accepted f (A .sizes) .1 in let e = pairs-accepted f (A .pairs) 1 (omega (arith, fixed)) in omega arith
 
   abbrev half : List ℕ
   half = over f (offsetOf f 0) (kindsOf m)
@@ -139,7 +140,7 @@ module _ (f : List ℕ) (A : Accepted f) (m : State) (P : Proper (rightsOf f) m)
   unfolding written
   kinds-written =
       let n : lengthOf f 0 ≡ length (kindsOf m) = sizes-accepted f (A .sizes) .0 ∙ sym (K .kinds-length) in
-      section-is 0 (omega (arith, two))
+      section-is 0 (omega (arith, fixed))
       ∙ over-part half (cellsOf m) (offsetOf f 1) fits-cells (offsetOf f 0) (lengthOf f 0) (omega (arith, cells-at, sizes-accepted f (A .sizes) .0))
       ∙ ap (λ (z : ℕ). take z (drop (offsetOf f 0) half)) n
       ∙ over-here f (kindsOf m) (offsetOf f 0) fits-kinds
@@ -148,34 +149,43 @@ module _ (f : List ℕ) (A : Accepted f) (m : State) (P : Proper (rightsOf f) m)
   unfolding written
   cells-written =
       let n : lengthOf f 1 ≡ length (cellsOf m) = sizes-accepted f (A .sizes) .1 ∙ sym (K .cells-length) in
-      section-is 1 (omega (arith, two))
+      section-is 1 (omega (arith, fixed))
       ∙ ap (λ (z : ℕ). take z (drop (offsetOf f 1) (written f m))) n
       ∙ over-here half (cellsOf m) (offsetOf f 1) fits-cells
 
-  command-at : (i : ℕ) → suc i < pairsOf f → offsetOf f 1 + names * names ≤ offsetOf f (suc i) + lengthOf f (suc i)
+  section-at : (i : ℕ) → suc i < pairsOf f → offsetOf f 1 + names * names ≤ offsetOf f (suc i) + lengthOf f (suc i)
   unfolding startOf
-  command-at zero l = let z = sizes-accepted f (A .sizes) .1 in omega arith
-  command-at (suc i) l =
+  section-at zero l = let z = sizes-accepted f (A .sizes) .1 in omega arith
+  section-at (suc i) l =
       let e : offsetOf f (suc (suc i)) ≡ offsetOf f (suc i) + lengthOf f (suc i) = sections-placed f (A .pairs) (suc (suc i)) l in
-      omega (arith, command-at i (omega arith))
+      omega (arith, section-at i (omega arith))
 
-  pub command-stays : (i : ℕ) → i < commandsOf f → commandIn (written f m) i ≡ commandIn f i
+  -- the sections behind the cells
+  section-stays : (i : ℕ) → 2 + i < pairsOf f → section (written f m) (2 + i) ≡ section f (2 + i)
   unfolding written startOf
-  command-stays i l =
+  section-stays i l =
       let j : 2 + i ≡ suc (suc i) = omega arith in
       let e : offsetOf f (2 + i) ≡ offsetOf f (suc i) + lengthOf f (suc i) =
       ap (offsetOf f) j ∙ sections-placed f (A .pairs) (suc (suc i)) (omega arith) in
-      let far : offsetOf f 1 + names * names ≤ offsetOf f (2 + i) = omega (arith, command-at i (omega arith)) in
+      let far : offsetOf f 1 + names * names ≤ offsetOf f (2 + i) = omega (arith, section-at i (omega arith)) in
       section-is (2 + i) (omega arith)
       ∙ ap (take (lengthOf f (2 + i))) (over-after half (cellsOf m) (offsetOf f 1) fits-cells (offsetOf f (2 + i)) (omega (arith, K .cells-length))
       ∙ over-after f (kindsOf m) (offsetOf f 0) fits-kinds (offsetOf f (2 + i)) (omega (arith, K .kinds-length, cells-at)))
+
+  pub carries-stay : carriesIn (written f m) ≡ carriesIn f
+  carries-stay = section-stays 0 (omega (arith, fixed))
+
+  pub command-stays : (i : ℕ) → i < commandsOf f → commandIn (written f m) i ≡ commandIn f i
+  command-stays i l =
+      let z : 2 + (1 + i) ≡ fixedPairs + i = omega arith in
+      subst (λ (k : ℕ). section (written f m) k ≡ section f k) z (section-stays (1 + i) (omega arith))
 
   -- ---- what the file says
   pub state-written : fileState (written f m) ≡ m
   state-written = ap₂ view kinds-written cells-written ∙ view-back (rightsOf f) m P (A .header .few-rights)
 
   commands-stay : commandsOf (written f m) ≡ commandsOf f
-  commands-stay = ap (λ (n : ℕ). n - 2) pairs-stay
+  commands-stay = ap (λ (n : ℕ). n - fixedPairs) pairs-stay
 
   -- ---- and it is accepted
   header-stays : headerRefusal (written f m) ≡ headerRefusal f
@@ -193,7 +203,7 @@ module _ (f : List ℕ) (A : Accepted f) (m : State) (P : Proper (rightsOf f) m)
 
   sizes-stay : sizesRefusal (written f m) ≡ sizesRefusal f
   unfolding sizesRefusal
-  sizes-stay = rw (length-stays 0 (omega (arith, two)), length-stays 1 (omega (arith, two)))
+  sizes-stay = rw (length-stays 0 (omega (arith, fixed)), length-stays 1 (omega (arith, fixed)), length-stays 2 (omega (arith, fixed)), rights-stay)
 
   matrix-fits : matrixRefusal (rightsOf (written f m)) (kindsIn (written f m)) (cellsIn (written f m)) ≡ 0
   unfolding matrixRefusal cellFits
@@ -213,6 +223,9 @@ module _ (f : List ℕ) (A : Accepted f) (m : State) (P : Proper (rightsOf f) m)
           go true h = refl
           go false h = eq-eqb (byte (cellsOf m) c) 0 (h tt)
 
+  carries-refusal-stays : carriesRefusal (rightsOf (written f m)) (carriesIn (written f m)) ≡ carriesRefusal (rightsOf f) (carriesIn f)
+  carries-refusal-stays = ap₂ carriesRefusal rights-stay carries-stay
+
   commands-refusal-stays : (n i : ℕ) → i + n ≤ commandsOf f → commandsRefusal (written f m) n i ≡ commandsRefusal f n i
   unfolding commandsRefusal
   commands-refusal-stays zero i l = refl
@@ -222,7 +235,7 @@ module _ (f : List ℕ) (A : Accepted f) (m : State) (P : Proper (rightsOf f) m)
   pub rewritten-accepted : refusal (written f m) ≡ 0
   unfolding refusal
   rewritten-accepted =
-      rw (header-stays, A .header-passed, pairs-refusal-stays, A .pairs, sizes-stay, A .sizes, matrix-fits)
+      rw (header-stays, A .header-passed, pairs-refusal-stays, A .pairs, sizes-stay, A .sizes, matrix-fits, carries-refusal-stays, A .carries)
       (ap (λ (n : ℕ). commandsRefusal (written f m) n 0) commands-stay ∙ commands-refusal-stays (commandsOf f) 0 (omega arith) ∙ A .commands-passed)
 
   table-stays : commandTable (written f m) (commandsOf (written f m)) ≡ commandTable f (commandsOf f)
@@ -238,4 +251,4 @@ module _ (f : List ℕ) (A : Accepted f) (m : State) (P : Proper (rightsOf f) m)
 
   pub system-written : fileSystem (written f m) ≡ fileSystem f
   unfolding policyOf
-  system-written = rw (rights-stay, table-stays, commands-stay)
+  system-written = rw (rights-stay, carries-stay, table-stays, commands-stay)

@@ -4,13 +4,15 @@ use mathlib.Core.List.{List, _++_}
 use lib.ListN.{length, getD, take, drop, replicate}
 use lib.Dec.{eqb, ltb}
 use Rattle.cases.specs.Cases.{pick, tabulate}
-use Rattle.protection.specs.Limits.{commands}
+use Rattle.protection.specs.Limits.{rights, commands}
 use Rattle.protection.specs.State.{State}
 use Rattle.protection.specs.Command.{System}
 use Rattle.matrix.specs.Bytes.{view, kindsOf, cellsOf}
 use Rattle.matrix.specs.Matrices.{emptyMatrix}
 use Rattle.matrix.specs.declared.Matrix.{Matrix}
-use Rattle.layout.specs.File.{rightsOf, offsetOf, kindsIn, cellsIn, commandIn, commandsOf}
+use Rattle.layout.specs.File.{rightsOf, offsetOf, kindsIn, cellsIn, carriesIn, commandIn, commandsOf}
+use Rattle.carries.specs.Bytes.{carriedIn, carriesTable}
+use Rattle.carries.specs.Closed.{carriedOf, carriersOf}
 use Rattle.commands.specs.Contents.{noCommand, missing, commandOf, meaning}
 use Rattle.commands.specs.declared.Command.{Command}
 use Rattle.policy.specs.Refusals.{commandsRefusal, refusal}
@@ -20,7 +22,7 @@ use Rattle.policy.specs.declared.PolicyRead.{PolicyRead}
 
 -- ---- the whole file
 abbrev pub noPolicy : Policy
-noPolicy = record { rights = 0; commands = 0; matrix = emptyMatrix; command = replicate commands noCommand }
+noPolicy = record { rights = 0; commands = 0; matrix = emptyMatrix; carries = replicate rights 0; carried = replicate rights 0; carriers = replicate rights 0; command = replicate commands noCommand }
 
 -- the first n commands, and none in the places behind them
 unfoldable pub commandTable : List ℕ → ℕ → List Command
@@ -38,6 +40,9 @@ policyOf f =
       rights = rightsOf f;
       commands = commandsOf f;
       matrix = matrixIn f;
+      carries = carriesTable (carriesIn f);
+      carried = carriedOf (rightsOf f) (carriesTable (carriesIn f));
+      carriers = carriersOf (rightsOf f) (carriesTable (carriesIn f));
       command = commandTable f (commandsOf f);
     }
 
@@ -50,7 +55,7 @@ policyRead f = pick (eqb (refusal f) 0) (record { refused = 0; policy = policyOf
 
 -- ---- what they stand for
 abbrev pub systemOf : Policy → System
-systemOf p = record { rights = p .rights; commands = tabulate (λ i. meaning (getD (p .command) i missing)) (p .commands) 0 }
+systemOf p = record { rights = p .rights; carried = carriedIn (p .carries); commands = tabulate (λ i. meaning (getD (p .command) i missing)) (p .commands) 0 }
 
 -- the machine's state and its commands, of a file
 abbrev pub fileState : List ℕ → State

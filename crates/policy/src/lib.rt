@@ -1,21 +1,26 @@
-// The whole file: its matrix and its commands, read or refused (document 01, refusals 1 to 9).
+// The whole file: its matrix, what its rights carry and its commands, read or refused (document 01, refusals 1 to 9; document 02, C-19, 44).
 ghost use mathlib.Core.Path.{_≡_};
 ghost use Prim.Native.Nat.{_+_, _*_, _≤_, _<_};
 ghost use lib.ListN.{length, getD};
 ghost use Rattle.protection.specs.Limits.{commands};
-ghost use Rattle.layout.specs.File.{rightsOf, commandIn};
+ghost use Rattle.layout.specs.File.{rightsOf, carriesIn, commandIn};
+ghost use Rattle.carries.specs.Bytes.{carriesTable};
 ghost use Rattle.policy.specs.Contents.{matrixIn, commandsRead, noPolicy, refusedRead, policyRead};
 ghost use Rattle.commands.specs.Contents.{missing, commandRead};
-ghost use Rattle.policy.specs.Layout.{MatrixInside, CommandInside, CommandsInside};
+ghost use Rattle.policy.specs.Layout.{MatrixInside, CarriesInside, CommandInside, CommandsInside};
 use commands::Command;
 use commands::CommandRead;
 use matrix::Matrix;
 
-// How many rights and commands there are, the matrix, and the commands; places behind the last command hold none.
+// How many rights and commands there are, the matrix, and the commands; places behind the last command hold none. Of each right, what the file says that it
+// carries, and through further rights the set of those that it carries and of those that carry it.
 pub struct Policy {
     pub rights: u8,
     pub commands: u8,
     pub matrix: Matrix,
+    pub carries: [u8; Matrix::RIGHTS as usize],
+    pub carried: [u8; Matrix::RIGHTS as usize],
+    pub carriers: [u8; Matrix::RIGHTS as usize],
     pub command: [Command; Policy::COMMANDS],
 }
 
@@ -41,6 +46,9 @@ impl Policy {
             rights: 0,
             commands: 0,
             matrix: Matrix::empty(),
+            carries: [0u8; Matrix::RIGHTS as usize],
+            carried: [0u8; Matrix::RIGHTS as usize],
+            carriers: [0u8; Matrix::RIGHTS as usize],
             command: [Command::none(); Policy::COMMANDS],
         }
     }
@@ -70,12 +78,24 @@ fn matrix_of(file: &[u8]) -> Matrix
     Matrix { kinds, cells }
 }
 
+// A copy of the carries, in front of zeros.
+fn carries_of(file: &[u8], g: u8) -> [u8; Matrix::RIGHTS as usize]
+    requires { ⌜ CarriesInside (now file) g ⌝ }
+    ensures { λ r. ⌜ r ≡ carriesTable (carriesIn (now (file .entry))) ⌝ }
+{
+    let start = layout::word_at(file, 10);
+    let end = start + g as usize;
+    let mut carries = [0u8; Matrix::RIGHTS as usize];
+    bytes::copy(&file[start..end], &mut carries);
+    carries
+}
+
 // Command number i, read from its own part of the file and no more.
 fn read_at(file: &[u8], g: u8, i: usize) -> CommandRead
     requires { ⌜ CommandInside (now file) i ⌝ }
     ensures { λ r. ⌜ r ≡ commandRead g (commandIn (now (file .entry)) i) ⌝ }
 {
-    let p = 2 + 4 * (2 + i);
+    let p = 2 + 4 * (layout::FIXED + i);
     let start = layout::word_at(file, p);
     let end = start + layout::word_at(file, p + 2);
     commands::read_command(&file[start..end], g)
@@ -125,7 +145,7 @@ pub fn read_policy(file: &[u8]) -> PolicyRead
     if table != 0 {
         return refused_with(table);
     }
-    let sizes = layout::sizes_refusal(file);
+    let sizes = layout::sizes_refusal(file, g);
     if sizes != 0 {
         return refused_with(sizes);
     }
@@ -134,18 +154,28 @@ pub fn read_policy(file: &[u8]) -> PolicyRead
     if cells != 0 {
         return refused_with(cells);
     }
-    let commands = read_commands(file, g, n - 2);
+    let carries = carries_of(file, g);
+    let beyond = carries::refusal(g, carries);
+    if beyond != 0 {
+        return refused_with(beyond);
+    }
+    let commands = read_commands(file, g, n - layout::FIXED);
     let refused = commands.refused;
     if refused != 0 {
         return refused_with(refused);
     }
     let command = commands.all;
+    let carried = carries::carried(g, carries);
+    let carriers = carries::carriers(carried);
     PolicyRead {
         refused: 0,
         policy: Policy {
             rights: g,
-            commands: (n - 2) as u8,
+            commands: (n - layout::FIXED) as u8,
             matrix,
+            carries,
+            carried,
+            carriers,
             command,
         },
     }

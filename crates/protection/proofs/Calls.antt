@@ -52,12 +52,12 @@ pub record Has (S : System) (C : Command) (c : Operation) : Type 0 where
 
 -- ---- what a call needs to be carried out
 -- its conditions hold
-abbrev pub ready : Command → State → Actuals → Bool
-ready C m a = holdAll m a (C .conditions)
+abbrev pub ready : System → Command → State → Actuals → Bool
+ready S C m a = holdAll S m a (C .conditions)
 
-pub record Carried (nameable : ℕ → Bool) (C : Command) (m : State) (a : Actuals) : Type 0 where
+pub record Carried (nameable : ℕ → Bool) (S : System) (C : Command) (m : State) (a : Actuals) : Type 0 where
   pub fits : T (all (actualFits nameable C a) parameters 0)
-  pub able : T (ready C m a)
+  pub able : T (ready S C m a)
   pub can : T (canDo m a (operationIn C))
 
 -- ---- the parameters that a command names are its own, and none of them is spare
@@ -79,10 +79,10 @@ pub one-named : (g : ℕ) (C : Command) → Single g C → (b : ℕ) → T (inOp
 one-named g C F b t = rw (F .one-operation) (or-left (inOperation b (operationIn C)) false t)
 
 -- bounded names: a parameter of the operation has a name below 32
-pub carried-small : (g : ℕ) (C : Command) → Single g C → (m : State) (a : Actuals) → Carried bounded C m a → (b : ℕ) → T (inOperation b (operationIn C)) → a b < names
-carried-small g C F m a K b op =
+pub carried-small : (S : System) (C : Command) → Single (S .rights) C → (m : State) (a : Actuals) → Carried bounded S C m a → (b : ℕ) → T (inOperation b (operationIn C)) → a b < names
+carried-small S C F m a K b op =
     ltb→lt (a b) names
-    (fits-name bounded C a (K .fits) (F .few) b (operation-below (C .parameters) g b (operationIn C) (F .operation-fits) op) (operation-used C b (one-named g C F b op)))
+    (fits-name bounded C a (K .fits) (F .few) b (operation-below (C .parameters) (S .rights) b (operationIn C) (F .operation-fits) op) (operation-used C b (one-named (S .rights) C F b op)))
 
 -- ---- what it comes to
 abbrev pub outcome : Command → State → Actuals → Outcome
@@ -97,14 +97,14 @@ module _ (S : System) (singles : Singles S) (nameable : ℕ → Bool) (m : State
   alone C F = rw (F .one-operation) (λ i. done (effect m a (operationIn C)) (λ r. or-false (entersNew m a (operationIn C) r) i))
 
   pub call-cases : (P : Outcome → Type 0) → ((n : ℕ) → P (refused n))
-      → ((C : Command) → getElem? (S .commands) (x .command) ≡ some C → Carried nameable C m a → P (outcome C m a)) → P (execute nameable S m x)
+      → ((C : Command) → getElem? (S .commands) (x .command) ≡ some C → Carried nameable S C m a → P (outcome C m a)) → P (execute nameable S m x)
   call-cases P no-run run = go (getElem? (S .commands) (x .command)) refl
     where
-      go : (w : Option Command) → getElem? (S .commands) (x .command) ≡ w → P (executeCommand nameable m w a)
+      go : (w : Option Command) → getElem? (S .commands) (x .command) ≡ w → P (executeCommand nameable S m w a)
       go none e = no-run 11
       go (some C) e =
           let F = singles (x .command) C e in
-          gates-elim P (all (actualFits nameable C a) parameters 0) (holdAll m a (C .conditions)) (canDoAll m a (C .operations))
+          gates-elim P (all (actualFits nameable C a) parameters 0) (holdAll S m a (C .conditions)) (canDoAll m a (C .operations))
           (done (effectAll m a (C .operations)) (entersAnyNew m a (C .operations))) no-run
           (λ fit hold can. subst P (sym (alone C F)) (run C e (record {
             fits = fit;
@@ -113,22 +113,22 @@ module _ (S : System) (singles : Singles S) (nameable : ℕ → Bool) (m : State
           })))
 
   module _ (C : Command) (found : getElem? (S .commands) (x .command) ≡ some C) where
-    pub call-done : Carried nameable C m a → execute nameable S m x ≡ outcome C m a
+    pub call-done : Carried nameable S C m a → execute nameable S m x ≡ outcome C m a
     call-done K =
         let F = singles (x .command) C found in
-        ap (λ (w : Option Command). executeCommand nameable m w a) found
-        ∙ gates-open (all (actualFits nameable C a) parameters 0) (holdAll m a (C .conditions)) (canDoAll m a (C .operations))
+        ap (λ (w : Option Command). executeCommand nameable S m w a) found
+        ∙ gates-open (all (actualFits nameable C a) parameters 0) (holdAll S m a (C .conditions)) (canDoAll m a (C .operations))
         (done (effectAll m a (C .operations)) (entersAnyNew m a (C .operations))) (K .fits) (K .able)
         (rw (F .one-operation) (and-intro (canDo m a (operationIn C)) true (K .can) tt))
         ∙ alone C F
 
-    pub call-carried : T (not (isRefused (execute nameable S m x))) → Carried nameable C m a
-    call-carried = call-cases (λ o. T (not (isRefused o)) → Carried nameable C m a) (λ n t. absurd t) (λ D e K _. let same : D ≡ C = cc in rw same at K)
+    pub call-carried : T (not (isRefused (execute nameable S m x))) → Carried nameable S C m a
+    call-carried = call-cases (λ o. T (not (isRefused o)) → Carried nameable S C m a) (λ n t. absurd t) (λ D e K _. let same : D ≡ C = cc in rw same at K)
 
 -- ---- a call that the judge allows
 module _ (S : System) (singles : Singles S) (m : State) (x : Call) (C : Command) (found : getElem? (S .commands) (x .command) ≡ some C) where
-  pub allowed-carried : T (allowed S m x) → Carried bounded C m (actuals x)
+  pub allowed-carried : T (allowed S m x) → Carried bounded S C m (actuals x)
   allowed-carried = call-carried S singles bounded m x C found
 
-  pub carried-allowed : Carried bounded C m (actuals x) → T (allowed S m x)
+  pub carried-allowed : Carried bounded S C m (actuals x) → T (allowed S m x)
   carried-allowed K = rw (call-done S singles bounded m x C found K) tt

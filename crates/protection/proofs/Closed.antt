@@ -25,7 +25,7 @@ pub record Reaches (S : System) (m : State) (c : ℕ → ℕ → Operation) (u v
   pub o : ℕ
   pub a : Actuals
   pub has : Has S C (c s o)
-  pub able : T (ready C m a)
+  pub able : T (ready S C m a)
   pub can : T (subjectIn m (a s) && objectIn m (a o))
   pub at-s : a s ≡ u
   pub at-o : a o ≡ v
@@ -52,7 +52,7 @@ module _ (S : System) (singles : Singles S) (r : ℕ) (m₀ M : State) (fresh : 
 
   module _ (m : State) (f : ℕ → ℕ) (σ : Sim m f) where
     -- ---- enter
-    sim-enter : (C : Command) (q s o : ℕ) → Has S C (enter q s o) → (a : Actuals) → T (ready C m a) → T (canDo m a (enter q s o)) → Sim (put m q (a s) (a o)) f
+    sim-enter : (C : Command) (q s o : ℕ) → Has S C (enter q s o) → (a : Actuals) → T (ready S C m a) → T (canDo m a (enter q s o)) → Sim (put m q (a s) (a o)) f
     sim-enter C q s o H a able can = record {
       maps = maps-enter S m₀ M fresh (K .saturated) m f (σ .maps) C q s o H a able can;
       orig = σ .orig;
@@ -60,7 +60,7 @@ module _ (S : System) (singles : Singles S) (r : ℕ) (m₀ M : State) (fresh : 
     }
 
     -- ---- delete
-    sim-delete : (C : Command) (q s o : ℕ) → Has S C (delete q s o) → (a : Actuals) → T (ready C m a) → T (canDo m a (delete q s o)) → Sim (takeOut m q (a s) (a o)) f
+    sim-delete : (C : Command) (q s o : ℕ) → Has S C (delete q s o) → (a : Actuals) → T (ready S C m a) → T (canDo m a (delete q s o)) → Sim (takeOut m q (a s) (a o)) f
     sim-delete C q s o H a able can = record {
       maps = maps-delete S m₀ M fresh (K .saturated) m f (σ .maps) q (a s) (a o);
       orig = σ .orig;
@@ -78,7 +78,7 @@ module _ (S : System) (singles : Singles S) (r : ℕ) (m₀ M : State) (fresh : 
               o = o;
               a = λ b. f (a b);
               has = rw eq H;
-              able = ready-to C m M f (σ .maps) a able;
+              able = ready-to S C m M f (σ .maps) a able;
               can = search (both, σ .maps .subject-to, σ .maps .object-to);
               at-s = ap f (sym ex);
               at-o = ap f (sym ey);
@@ -110,7 +110,7 @@ module _ (S : System) (singles : Singles S) (r : ℕ) (m₀ M : State) (fresh : 
         kept' x y false false hx hy t = σ .kept x y hx hy t
 
     -- ---- a leak
-    no-leak : (C : Command) (s o : ℕ) → Has S C (enter r s o) → (a : Actuals) → T (ready C m a) → T (canDo m a (enter r s o)) → T (not (m .cell (a s) (a o) r)) → ⊥
+    no-leak : (C : Command) (s o : ℕ) → Has S C (enter r s o) → (a : Actuals) → T (ready S C m a) → T (canDo m a (enter r s o)) → T (not (m .cell (a s) (a o) r)) → ⊥
     no-leak C s o H a able can lacks = ⊎-elim (T-not (m .cell (a s) (a o) r) lacks) again (σ .kept (a s) (a o) ts to was)
       where
         to : T (objectIn m (a o))
@@ -159,7 +159,7 @@ module _ (S : System) (singles : Singles S) (r : ℕ) (m₀ M : State) (fresh : 
           o = o;
           a = λ b. f (a b);
           has = H;
-          able = ready-to C m (takeOut M r (f (a s)) (f (a o))) f maps' a able;
+          able = ready-to S C m (takeOut M r (f (a s)) (f (a o))) f maps' a able;
           can = search (both, σ .maps .subject-to, σ .maps .object-to);
           at-s = refl;
           at-o = refl;
@@ -178,7 +178,7 @@ module _ (S : System) (singles : Singles S) (r : ℕ) (m₀ M : State) (fresh : 
     destroy : (n : ℕ) → Good (done (renew m n absent) (λ q. false))
     destroy n = record { quiet = λ t. t; map = λ x. pick (eqb x n) 0 (f x); sim = sim-renew n 0 absent (λ t. absurd t) (λ t. absurd t) (λ t. absurd t) }
 
-    step : (C : Command) (c : Operation) → Has S C c → (a : Actuals) → T (ready C m a) → T (canDo m a c) → Good (done (effect m a c) (entersNew m a c))
+    step : (C : Command) (c : Operation) → Has S C c → (a : Actuals) → T (ready S C m a) → T (canDo m a c) → Good (done (effect m a c) (entersNew m a c))
     step C (enter q s o) H a able can = record {
       quiet = λ t.
           no-leak C s o (rw (eqb→eq q r (and-left (eqb q r) (not (m .cell (a s) (a o) r)) t)) at H) a able can (and-right (eqb q r) (not (m .cell (a s) (a o) r)) t);

@@ -12,7 +12,7 @@ use Rattle.protection.specs.Size.{stepBound}
 use Rattle.protection.specs.Command.{Command, System, Call, actuals, spare}
 use Rattle.protection.specs.Execution.{Outcome, refused, done, execute}
 use Rattle.protection.specs.Leak.{after}
-use Rattle.protection.specs.Paper.{Configuration, configuration, Same, Executes}
+use Rattle.protection.specs.Paper.{Configuration, configuration, Same, ExecutesUnder}
 use Rattle.protection.specs.Judge.{Question, leakBeside, opened, round, rounds, conclude, allRounds, judgeBeside, Settled}
 use Rattle.protection.specs.Agreement.{Admitted, Agrees}
 use Rattle.protection.proofs.Spare.{fits-name, fits-rest}
@@ -50,7 +50,7 @@ module _ (nameable : ℕ → Bool) (S : System) (m : State) (x : Call) (A : Agre
 
   -- document 01 admits the call, and the relation executes the command to E
   abbrev ExecutedTo : Configuration → Type 0
-  ExecutedTo E = (C : Command) × Admitted nameable S x C × Executes C (actuals x) (configuration m) E
+  ExecutedTo E = (C : Command) × Admitted nameable S x C × ExecutesUnder S C (actuals x) (configuration m) E
 
   -- a call is refused, or the relation executes it to what the machine leaves
   pub refused-or-executed : Refused ⊎ ExecutedTo (configuration left)

@@ -1,5 +1,9 @@
 pub mod Names
+mod Small
 mod Readings
+mod CarryingReadings
+pub mod Sums
+pub mod Carrying
 pub mod Model
 pub mod Widening
 pub mod Spare
@@ -14,7 +18,6 @@ pub mod Old
 pub mod Holding
 pub mod Fixpoint
 pub mod ClosingSearch
-pub mod Sums
 pub mod Bound
 pub mod Consequences
 pub mod Saturation

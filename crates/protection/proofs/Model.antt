@@ -13,9 +13,11 @@ use Rattle.cases.proofs.Bools.{and-left, and-right, and-intro, both, is-true, i
 use Rattle.protection.specs.Limits.{parameters}
 use Rattle.protection.specs.State.{Kind, absent, object, subject, isObject, isSubject, State, objectIn, subjectIn}
 use Rattle.protection.specs.Command.{Condition, Operation, enter, delete, createSubject, createObject, destroySubject, destroyObject, Command, System, Call, Actuals, actuals}
+use Rattle.protection.specs.Carrying.{meets}
 use Rattle.protection.specs.Execution.{holdAll, actualFits, canDo, sameCell, renew, effect, canDoAll, effectAll, entersAnyNew, Outcome, refused, done, gate, executeCommand, execute}
-use Rattle.protection.specs.Paper.{Configuration, subject-is-object, configuration, Equal, Same, Yields, YieldsAll, SatisfiedAll, Executes}
+use Rattle.protection.specs.Paper.{Configuration, subject-is-object, configuration, Equal, Same, Yields, YieldsAll, MetAll, ExecutesUnder}
 use Rattle.protection.specs.Agreement.{Admitted, Agrees}
+use Rattle.protection.proofs.Carrying.{meets-exactly}
 
 -- ---- a kind at the name that is created or destroyed, and elsewhere
 made-subject : (b : Bool) (k : Kind) → isSubject (pick b subject k) ≡ isSubject k || b
@@ -315,15 +317,17 @@ yields-done-all (c ∷ cs) m a C h E y =
     (and-intro (canDo m a c) (canDoAll (effect m a c) a cs) (one .0) (rest .0), rest .1)
 
 -- ---- conditions
-hold-satisfied : (m : State) (a : Actuals) (cs : List Condition) → T (holdAll m a cs) → SatisfiedAll cs a (configuration m)
-hold-satisfied m a [] t = tt
-hold-satisfied m a (c ∷ cs) t =
-    (record { row = search both; column = search both; right = search both }, hold-satisfied m a cs (search both))
+hold-met : (S : System) (m : State) (a : Actuals) (cs : List Condition) → T (holdAll S m a cs) → MetAll S cs a (configuration m)
+hold-met S m a [] t = tt
+hold-met S m a (c ∷ cs) t =
+    let met : T (meets S (m .cell (a (c .subject)) (a (c .object))) (c .right)) = search both in
+    (record { row = search both; column = search both; right = meets-exactly S (m .cell (a (c .subject)) (a (c .object))) (c .right) .0 met }, hold-met S m a cs (search both))
 
-satisfied-hold : (m : State) (a : Actuals) (cs : List Condition) → SatisfiedAll cs a (configuration m) → T (holdAll m a cs)
-satisfied-hold m a [] h = tt
-satisfied-hold m a (c ∷ cs) h =
-    let row = h .0 .row in let column = h .0 .column in let right = h .0 .right in let rest = satisfied-hold m a cs (h .1) in
+met-hold : (S : System) (m : State) (a : Actuals) (cs : List Condition) → MetAll S cs a (configuration m) → T (holdAll S m a cs)
+met-hold S m a [] h = tt
+met-hold S m a (c ∷ cs) h =
+    let row = h .0 .row in let column = h .0 .column in let rest = met-hold S m a cs (h .1) in
+    let met = meets-exactly S (m .cell (a (c .subject)) (a (c .object))) (c .right) .1 (h .0 .right) in
     search both
 
 -- ---- the theorem
@@ -346,37 +350,37 @@ module _ (nameable : ℕ → Bool) (S : System) (m : State) (x : Call) where
   abbrev a : Actuals
   a = actuals x
 
-  execution : (C : Command) → getElem? (S .commands) (x .command) ≡ some C → execute nameable S m x ≡ executeCommand nameable m (some C) a
-  execution C e = ap (λ (w : Option Command). executeCommand nameable m w a) e
+  execution : (C : Command) → getElem? (S .commands) (x .command) ≡ some C → execute nameable S m x ≡ executeCommand nameable S m (some C) a
+  execution C e = ap (λ (w : Option Command). executeCommand nameable S m w a) e
 
   done-executes : (m' : State) (new : ℕ → Bool) → execute nameable S m x ≡ done m' new
-      → (C : Command) × Admitted nameable S x C × Executes C a (configuration m) (configuration m')
+      → (C : Command) × Admitted nameable S x C × ExecutesUnder S C a (configuration m) (configuration m')
   done-executes m' new = go (getElem? (S .commands) (x .command)) refl
     where
-      go : (w : Option Command) → getElem? (S .commands) (x .command) ≡ w → executeCommand nameable m w a ≡ done m' new
-          → (C : Command) × Admitted nameable S x C × Executes C a (configuration m) (configuration m')
+      go : (w : Option Command) → getElem? (S .commands) (x .command) ≡ w → executeCommand nameable S m w a ≡ done m' new
+          → (C : Command) × Admitted nameable S x C × ExecutesUnder S C a (configuration m) (configuration m')
       go none e = λ d. absurd (not-both m' new 11 (sym d))
       go (some C) e =
-          gates-elim (λ o. o ≡ done m' new → (C : Command) × Admitted nameable S x C × Executes C a (configuration m) (configuration m'))
-          (all (actualFits nameable C a) parameters 0) (holdAll m a (C .conditions)) (canDoAll m a (C .operations))
+          gates-elim (λ o. o ≡ done m' new → (C : Command) × Admitted nameable S x C × ExecutesUnder S C a (configuration m) (configuration m'))
+          (all (actualFits nameable C a) parameters 0) (holdAll S m a (C .conditions)) (canDoAll m a (C .operations))
           (done (effectAll m a (C .operations)) (entersAnyNew m a (C .operations)))
           (λ n d. absurd (not-both m' new n (sym d)))
           (λ fit hold can d.
           let z : effectAll m a (C .operations) ≡ m' = cc in (
             C,
             record { found = e; fit = fit },
-            record { conditions = hold-satisfied m a (C .conditions) hold; operations = subst (λ (k : State). YieldsAll (C .operations) a (configuration m) (configuration k)) z (done-yields-all (C .operations) m a can) },
+            record { conditions = hold-met S m a (C .conditions) hold; operations = subst (λ (k : State). YieldsAll (C .operations) a (configuration m) (configuration k)) z (done-yields-all (C .operations) m a can) },
           ))
 
-  executes-done : (C : Command) (E : Configuration) → Admitted nameable S x C → Executes C a (configuration m) E
+  executes-done : (C : Command) (E : Configuration) → Admitted nameable S x C → ExecutesUnder S C a (configuration m) E
       → (m' : State) × (new : ℕ → Bool) × (execute nameable S m x ≡ done m' new) × Same (configuration m') E
   executes-done C E A y =
       let d = yields-done-all (C .operations) m a (configuration m) (same-self (configuration m)) E (y .operations) in (
         effectAll m a (C .operations),
         entersAnyNew m a (C .operations),
         execution C (A .found)
-            ∙ gates-open (all (actualFits nameable C a) parameters 0) (holdAll m a (C .conditions)) (canDoAll m a (C .operations))
-            (done (effectAll m a (C .operations)) (entersAnyNew m a (C .operations))) (A .fit) (satisfied-hold m a (C .conditions) (y .conditions)) (d .0),
+            ∙ gates-open (all (actualFits nameable C a) parameters 0) (holdAll S m a (C .conditions)) (canDoAll m a (C .operations))
+            (done (effectAll m a (C .operations)) (entersAnyNew m a (C .operations))) (A .fit) (met-hold S m a (C .conditions) (y .conditions)) (d .0),
         d .1,
       )
 

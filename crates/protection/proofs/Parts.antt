@@ -16,12 +16,14 @@ use Rattle.cases.proofs.Lists.{found-tabulate}
 use Rattle.protection.specs.Limits.{names, parameters, unused}
 use Rattle.protection.specs.State.{Kind, absent, object, subject, isObject, isSubject, State, objectIn, subjectIn}
 use Rattle.protection.specs.Command.{Condition, Operation, enter, delete, createSubject, createObject, destroySubject, destroyObject, Command, System, Call, Actuals, actuals, inOperation, spare}
+use Rattle.protection.specs.Carrying.{meets}
 use Rattle.protection.specs.Execution.{bounded, unbounded, holds, holdAll, canDo, sameCell, put, takeOut, renew, effect, entersNew, refused, done, execute}
 use Rattle.protection.specs.Size.{stepBound}
 use Rattle.protection.specs.Leak.{LeaksLast}
 use Rattle.protection.specs.Judge.{Choice, weight, namesAt, firstIn, noneReserved, lowestFree, creates, isCreate, operationIn, choice, choices, placesOf, fourOf, callAt, leakOf, leakBeside, Progress, opened, allowed, wanted, visit, tryCommand, allRounds, deletesAt, entersAt, takes, returns, firstCall, both as both-calls, pairAt, isEmpty, closing, Verdict, judgeBeside}
 use Rattle.protection.specs.Part.{without}
 use Rattle.protection.specs.Paper.{subject-is-object}
+use Rattle.protection.proofs.Carrying.{meets-congruent}
 use Rattle.protection.proofs.Calls.{Single, Singles, Carried, ready, operation-below, one-named, carried-small, call-cases, call-done}
 use Rattle.protection.proofs.Spare.{operation-used}
 use Rattle.protection.proofs.First.{first-passes}
@@ -57,18 +59,21 @@ module _ (R : ℕ → Bool) where
     cell-whole : (s o q : ℕ) → T (subjectIn P s) → T (objectIn P o) → P .cell s o q ≡ W .cell s o q
     cell-whole s o q t u = h .cells s o q (h .there s (subject-is-object (P .kind s) t)) (h .there o u)
 
-    holds-whole : (a : Actuals) (c : Condition) → T (holds P a c) → T (holds W a c)
-    holds-whole a c t =
+    holds-whole : (S : System) (a : Actuals) (c : Condition) → T (holds S P a c) → T (holds S W a c)
+    holds-whole S a c t =
         let s : T (subjectIn P (a (c .subject))) = search both in
         let o : T (objectIn P (a (c .object))) = search both in
-        let e : T (P .cell (a (c .subject)) (a (c .object)) (c .right)) = and-right (subjectIn P (a (c .subject)) && objectIn P (a (c .object))) (P .cell (a (c .subject)) (a (c .object)) (c .right)) t in
-        and-intro (subjectIn W (a (c .subject)) && objectIn W (a (c .object))) (W .cell (a (c .subject)) (a (c .object)) (c .right))
+        let here = P .cell (a (c .subject)) (a (c .object)) in
+        let whole = W .cell (a (c .subject)) (a (c .object)) in
+        let e : T (meets S here (c .right)) = and-right (subjectIn P (a (c .subject)) && objectIn P (a (c .object))) (meets S here (c .right)) t in
+        and-intro (subjectIn W (a (c .subject)) && objectIn W (a (c .object))) (meets S whole (c .right))
         (and-intro (subjectIn W (a (c .subject))) (objectIn W (a (c .object))) (subject-whole (a (c .subject)) s) (object-whole (a (c .object)) o))
-        (subst T (cell-whole (a (c .subject)) (a (c .object)) (c .right) s o) e)
+        (subst T (meets-congruent S here whole (λ q. cell-whole (a (c .subject)) (a (c .object)) q s o) (c .right)) e)
 
-    hold-all-whole : (a : Actuals) (cs : List Condition) → T (holdAll P a cs) → T (holdAll W a cs)
-    hold-all-whole a [] t = tt
-    hold-all-whole a (c ∷ cs) t = and-intro (holds W a c) (holdAll W a cs) (holds-whole a c (and-left (holds P a c) (holdAll P a cs) t)) (hold-all-whole a cs (and-right (holds P a c) (holdAll P a cs) t))
+    hold-all-whole : (S : System) (a : Actuals) (cs : List Condition) → T (holdAll S P a cs) → T (holdAll S W a cs)
+    hold-all-whole S a [] t = tt
+    hold-all-whole S a (c ∷ cs) t =
+        and-intro (holds S W a c) (holdAll S W a cs) (holds-whole S a c (and-left (holds S P a c) (holdAll S P a cs) t)) (hold-all-whole S a cs (and-right (holds S P a c) (holdAll S P a cs) t))
 
     -- ---- the operations that the judge writes
     stands-put : (q s o : ℕ) → Stands R (put P q s o) (put W q s o)
@@ -225,10 +230,10 @@ module _ (S : System) (singles : Singles S) (R : ℕ → Bool) (r : ℕ) where
       not-done : (n : ℕ) → refused n ≡ done P' new → ⊥
       not-done n q = let z : _≡_ {A = ℕ} 0 1 = cc in omega arith
 
-      by : (C : Command) → getElem? (S .commands) (x .command) ≡ some C → Carried bounded C P (actuals x) → done (effect P (actuals x) (operationIn C)) (entersNew P (actuals x) (operationIn C)) ≡ done P' new → Shared x P W P' new
+      by : (C : Command) → getElem? (S .commands) (x .command) ≡ some C → Carried bounded S C P (actuals x) → done (effect P (actuals x) (operationIn C)) (entersNew P (actuals x) (operationIn C)) ≡ done P' new → Shared x P W P' new
       by C found K q =
           let D = same-operation R P W h (actuals x) r (operationIn C) (A .keeps C found) (A .new C found) (K .can) in
-          let KW : Carried bounded C W (actuals x) = record { fits = K .fits; able = hold-all-whole R P W h (actuals x) (C .conditions) (K .able); can = D .can } in
+          let KW : Carried bounded S C W (actuals x) = record { fits = K .fits; able = hold-all-whole R P W h S (actuals x) (C .conditions) (K .able); can = D .can } in
           let eP : effect P (actuals x) (operationIn C) ≡ P' = cc in
           let eN : entersNew P (actuals x) (operationIn C) ≡ new = cc in
           record {
@@ -290,7 +295,7 @@ module _ (S : System) (singles : Singles S) (R : ℕ → Bool) (r : ℕ) where
             let u : T (creates s (operationIn C)) = subst (λ (E : Command). T (creates s (operationIn E))) (sym (of D e)) t in
             let op = creates-in s (operationIn C) u in
             let q : actuals x s ≡ n = created-name (S .rights) C F n p i inside s op u in
-            let l : actuals x s < names = carried-small (S .rights) C F (j .state) (actuals x) K s op in
+            let l : actuals x s < names = carried-small S C F (j .state) (actuals x) K s op in
             rw q (free (rw q at l));
       } in
       apart-both S R (j .steps) (x ∷ []) h (apart, tt)) h

@@ -115,21 +115,21 @@ module _ (g : ℕ) (C : Command) (F : Single g C) (n : ℕ) (a : Actuals) (small
           }
 
 -- ---- which actuals matter: each parameter of a command that is ready has an existing name, or is a parameter of its operation, or is spare
-conditions-exist : (m : State) (a : Actuals) (b : ℕ) (cs : List Condition) → T (inConditions b cs) → T (holdAll m a cs) → T (objectIn m (a b))
-conditions-exist m a b [] t h = absurd t
-conditions-exist m a b (c ∷ cs) t h =
+conditions-exist : (S : System) (m : State) (a : Actuals) (b : ℕ) (cs : List Condition) → T (inConditions b cs) → T (holdAll S m a cs) → T (objectIn m (a b))
+conditions-exist S m a b [] t h = absurd t
+conditions-exist S m a b (c ∷ cs) t h =
     let hs : T (subjectIn m (a (c .subject))) = search both in
     let ho : T (objectIn m (a (c .object))) = search both in
-    let rest : T (holdAll m a cs) = search both in
+    let rest : T (holdAll S m a cs) = search both in
     ⊎-elim
     (λ u. ⊎-elim (λ s. rw (eqb→eq b (c .subject) s) (subject-is-object (m .kind (a (c .subject))) hs)) (λ o. rw (eqb→eq b (c .object) o) ho)
     (or-cases (eqb b (c .subject)) (eqb b (c .object)) u))
-    (λ u. conditions-exist m a b cs u rest) (or-cases (eqb b (c .subject) || eqb b (c .object)) (inConditions b cs) t)
+    (λ u. conditions-exist S m a b cs u rest) (or-cases (eqb b (c .subject) || eqb b (c .object)) (inConditions b cs) t)
 
-pub names-small : (g : ℕ) (C : Command) → Single g C → (m : State) → ((x : ℕ) → T (objectIn m x) → x < names) → (a : Actuals) → T (ready C m a)
+pub names-small : (S : System) (C : Command) → Single (S .rights) C → (m : State) → ((x : ℕ) → T (objectIn m x) → x < names) → (a : Actuals) → T (ready S C m a)
     → ((b : ℕ) → T (inOperation b (operationIn C)) → a b < names) → (b : ℕ) → b < C .parameters → T (not (spare C b)) → a b < names
-names-small g C F m below a hold in-op b l used =
-    ⊎-elim (λ c. below (a b) (conditions-exist m a b (C .conditions) c hold))
+names-small S C F m below a hold in-op b l used =
+    ⊎-elim (λ c. below (a b) (conditions-exist S m a b (C .conditions) c hold))
     (λ s. in-op b (rw (or-false (inOperation b (operationIn C))) at (rw (F .one-operation) at s)))
     (or-cases (inConditions b (C .conditions)) (inOperations b (C .operations)) (not-not (named C b) (rw (lt-ltb b (C .parameters) l) at used)))
 
@@ -142,11 +142,11 @@ pub record Visited (S : System) (m : State) (n : ℕ) (C : Command) (c : Operati
   pub allows : T (canDo m a c) → T (allowed S m (callAt (H .place) C n place))
 
 module _ (S : System) (singles : Singles S) (m : State) (below : (x : ℕ) → T (objectIn m x) → x < names) (n : ℕ) (C : Command) (c : Operation) (H : Has S C c) (a : Actuals) where
-  pub visited : T (ready C m a) → ((b : ℕ) → T (inOperation b c) → a b < names) → ((b : ℕ) → T (creates b c) → a b ≡ n) → (T (isCreate c) → n < names) → Visited S m n C c H a
+  pub visited : T (ready S C m a) → ((b : ℕ) → T (inOperation b c) → a b < names) → ((b : ℕ) → T (creates b c) → a b ≡ n) → (T (isCreate c) → n < names) → Visited S m n C c H a
   visited able small new room =
       let F = singles (H .place) C (H .found) in
       let P = placed (S .rights) C F n a
-      (names-small (S .rights) C F m below a able (λ b t. small b (subst (λ (z : Operation). T (inOperation b z)) (H .is) t)))
+      (names-small S C F m below a able (λ b t. small b (subst (λ (z : Operation). T (inOperation b z)) (H .is) t)))
       (λ b t. new b (subst (λ (z : Operation). T (creates b z)) (H .is) t)) (λ t. room (subst (λ (z : Operation). T (isCreate z)) (H .is) t)) (H .place) in
       let x = callAt (H .place) C n (P .place) in
       let by-operation : (b : ℕ) → T (inOperation b (operationIn C)) → actuals x b ≡ a b =
@@ -159,7 +159,7 @@ module _ (S : System) (singles : Singles S) (m : State) (below : (x : ℕ) → T
         agrees = λ b t. by-operation b (subst (λ (z : Operation). T (inOperation b z)) (sym (H .is)) t);
         allows = λ t. carried-allowed S singles m x C (H .found) (record {
           fits = P .fits;
-          able = subst T (sym (hold-same a (actuals x) m (C .conditions) by-conditions)) able;
+          able = subst T (sym (hold-same a (actuals x) S m (C .conditions) by-conditions)) able;
           can = subst T (sym (operation-alike a (actuals x) (operationIn C) by-operation .can m)) (subst (λ (z : Operation). T (canDo m a z)) (sym (H .is)) t);
         });
       }
@@ -187,7 +187,7 @@ pub record CellVisited (S : System) (m : State) (n : ℕ) (C : Command) (c : Ope
 
 module _ (S : System) (singles : Singles S) (m : State) (below : (x : ℕ) → T (objectIn m x) → x < names) (n : ℕ) (C : Command) (c : ℕ → ℕ → Operation) (cell : OnCell c) (s o : ℕ)
     (H : Has S C (c s o)) (a : Actuals) where
-  pub visited-cell : T (ready C m a) → T (subjectIn m (a s) && objectIn m (a o)) → CellVisited S m n C (c s o) H s o a
+  pub visited-cell : T (ready S C m a) → T (subjectIn m (a s) && objectIn m (a o)) → CellVisited S m n C (c s o) H s o a
   visited-cell able exist =
       let W = visited S singles m below n C (c s o) H a able small (λ b t. absurd (subst T (cell .creates-none s o b) t)) (λ t. absurd (subst T (cell .no-create s o) t)) in
       record {

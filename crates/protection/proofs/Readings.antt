@@ -6,46 +6,18 @@ use mathlib.Core.List.{List, [], _∷_}
 use native.Mathlib.Omega.{arith}
 use lib.Dec.{T, eqb}
 use lib.ListN.{getD}
-use Rattle.cases.specs.Cases.{iterate, all}
+use Rattle.cases.specs.Cases.{iterate, all, any}
 use Rattle.protection.specs.Limits.{unused}
 use Rattle.protection.specs.State.{Kind, absent, object, subject, State}
 use Rattle.protection.specs.Command.{Condition, Operation, enter, delete, createSubject, createObject, destroySubject, destroyObject, Command, System, Call}
+use Rattle.protection.specs.Carrying.{meets}
 use Rattle.protection.specs.Execution.{bounded, unbounded, Outcome, refused, execute}
 use Rattle.protection.specs.Leak.{isRefused, leaks, anyRefused, LeaksLast}
 use Rattle.protection.specs.Size.{count}
-use Rattle.protection.specs.Judge.{lowestFree, placesOf, rounds, Verdict, allRounds, judgeBeside, judge}
+use Rattle.protection.specs.Judge.{lowestFree, placesOf, rounds, allRounds, judgeBeside, judge}
 use Rattle.protection.specs.Part.{judgePart}
 use Rattle.protection.specs.Need.{Cell, CellsThere, heldOf, nothing, final, destroysAnyOld, destroysStart, HeldAfter, NeverHeld}
-
--- ---- small states, systems and calls
--- a right in a cell
-record Mark : Type 0 where
-  subject : ℕ
-  object : ℕ
-  right : ℕ
-
-abbrev mark : ℕ → ℕ → ℕ → Mark
-mark q s o = record { subject = s; object = o; right = q }
-
-abbrev marked : List Mark → ℕ → ℕ → ℕ → Bool
-marked [] s o q = false
-marked (c ∷ cs) s o q = ((eqb (c .subject) s && eqb (c .object) o) && eqb (c .right) q) || marked cs s o q
-
--- the kinds of the names from 0 on, all others absent; and the rights that are in cells
-abbrev state : List Kind → List Mark → State
-state ks cs = record { kind = λ x. getD ks x absent; cell = marked cs }
-
-abbrev ifIn : ℕ → ℕ → ℕ → Condition
-ifIn q s o = record { right = q; subject = s; object = o }
-
-abbrev command : ℕ → List Condition → List Operation → Command
-command k cs os = record { parameters = k; conditions = cs; operations = os }
-
-abbrev system : ℕ → List Command → System
-system g cs = record { rights = g; commands = cs }
-
-abbrev call : ℕ → List ℕ → Call
-call i xs = record { command = i; a0 = getD xs 0 unused; a1 = getD xs 1 unused; a2 = getD xs 2 unused; a3 = getD xs 3 unused }
+use Rattle.protection.proofs.Small.{mark, state, ifIn, command, system, call, safe, unsafe}
 
 -- ---- leaks (right 0, rules (a) on the cell (a,a))
 -- rule 0 enters 0; 1 deletes 0 and enters it again; 2 enters 0 and deletes it again; 3 enters 0, and then a is created, which cannot be done; 4 creates a
@@ -160,12 +132,6 @@ spare-places : placesOf (command 3 [] (enter 0 1 1 ∷ [])) 0 ≡ 32
 spare-places = refl
 
 -- ---- the judge
-abbrev safe : List Call → Verdict
-safe xs = record { unsafe = false; steps = xs }
-
-abbrev unsafe : List Call → Verdict
-unsafe xs = record { unsafe = true; steps = xs }
-
 -- "for each rule through all actuals, the first blank slowest"
 blanks-in-order : judge (system 1 (command 2 [] (enter 0 0 1 ∷ []) ∷ [])) 0 (state (subject ∷ subject ∷ []) (mark 0 0 0 ∷ [])) ≡ unsafe (call 0 (0 ∷ 1 ∷ []) ∷ [])
 unfolding judgeBeside rounds lowestFree iterate all count
@@ -175,11 +141,11 @@ blanks-in-order = refl
 rules-in-order
     : judge (system 2 (command 1 (ifIn 1 0 0 ∷ []) (enter 0 0 0 ∷ []) ∷ command 1 [] (enter 1 0 0 ∷ []) ∷ command 1 [] (enter 0 0 0 ∷ []) ∷ [])) 0 without
     ≡ unsafe (call 1 (0 ∷ []) ∷ call 2 (0 ∷ []) ∷ [])
-unfolding judgeBeside rounds lowestFree iterate all count
+unfolding judgeBeside rounds lowestFree iterate all count meets any
 rules-in-order = refl
 
 again-from-the-first : judge (system 2 (command 1 (ifIn 1 0 0 ∷ []) (enter 0 0 0 ∷ []) ∷ command 1 [] (enter 1 0 0 ∷ []) ∷ [])) 0 without ≡ unsafe (call 1 (0 ∷ []) ∷ call 0 (0 ∷ []) ∷ [])
-unfolding judgeBeside rounds lowestFree iterate all count
+unfolding judgeBeside rounds lowestFree iterate all count meets any
 again-from-the-first = refl
 
 -- "A created blank gets only the name that is lowest absent when the judge reaches the rule in that round"; "a create object if the judge has done no create
@@ -214,12 +180,12 @@ cells-in-order
     0
     (state (subject ∷ subject ∷ []) (mark 0 0 0 ∷ mark 0 0 1 ∷ mark 1 0 1 ∷ mark 0 1 0 ∷ mark 1 1 0 ∷ []))
     ≡ unsafe (call 0 (0 ∷ 1 ∷ []) ∷ call 1 (0 ∷ 1 ∷ []) ∷ [])
-unfolding judgeBeside rounds lowestFree iterate all count
+unfolding judgeBeside rounds lowestFree iterate all count meets any
 cells-in-order = refl
 
 -- "once r is gone": from that cell, and from no other
 gone-there : judge (system 1 (command 1 [] (delete 0 0 0 ∷ []) ∷ command 1 (ifIn 0 0 0 ∷ []) (enter 0 0 0 ∷ []) ∷ [])) 0 with ≡ safe []
-unfolding judgeBeside rounds lowestFree iterate all count
+unfolding judgeBeside rounds lowestFree iterate all count meets any
 gone-there = refl
 
 there-elsewhere
@@ -228,7 +194,7 @@ there-elsewhere
     0
     (state (subject ∷ object ∷ []) (mark 0 0 0 ∷ mark 0 0 1 ∷ []))
     ≡ unsafe (call 1 (0 ∷ 1 ∷ []) ∷ call 0 (0 ∷ 1 ∷ []) ∷ [])
-unfolding judgeBeside rounds lowestFree iterate all count
+unfolding judgeBeside rounds lowestFree iterate all count meets any
 there-elsewhere = refl
 
 -- ---- names left out (document 02, C-15); name 0 is left out
@@ -240,28 +206,28 @@ abbrev grants : System
 grants = system 2 (command 2 (ifIn 1 0 1 ∷ []) (enter 0 1 1 ∷ []) ∷ [])
 
 office-grants : judge grants 0 (state (subject ∷ subject ∷ []) (mark 1 0 1 ∷ [])) ≡ unsafe (call 0 (0 ∷ 1 ∷ []) ∷ [])
-unfolding judgeBeside rounds lowestFree iterate all count
+unfolding judgeBeside rounds lowestFree iterate all count meets any
 office-grants = refl
 
 without-its-row : judgePart grants office 0 (state (subject ∷ subject ∷ []) (mark 1 0 1 ∷ [])) ≡ safe []
-unfolding judgeBeside rounds lowestFree iterate all count
+unfolding judgeBeside rounds lowestFree iterate all count meets any
 without-its-row = refl
 
 -- and in its column
 without-its-column : judgePart (system 2 (command 2 (ifIn 1 0 1 ∷ []) (enter 0 0 0 ∷ []) ∷ [])) office 0 (state (subject ∷ subject ∷ []) (mark 1 1 0 ∷ [])) ≡ safe []
-unfolding judgeBeside rounds lowestFree iterate all count
+unfolding judgeBeside rounds lowestFree iterate all count meets any
 without-its-column = refl
 
 -- what stays leaks by itself
 leaks-without : judgePart grants office 0 (state (subject ∷ subject ∷ object ∷ []) (mark 1 1 1 ∷ [])) ≡ unsafe (call 0 (1 ∷ 1 ∷ []) ∷ [])
-unfolding judgeBeside rounds lowestFree iterate all count
+unfolding judgeBeside rounds lowestFree iterate all count meets
 leaks-without = refl
 
 -- "created names are the lowest absent in the whole matrix": not 0, though the part lacks it
 created-beside
     : judgePart (system 2 (command 1 [] (createSubject 0 ∷ []) ∷ command 1 (ifIn 1 0 0 ∷ []) (enter 0 0 0 ∷ []) ∷ [])) office 0 (state (subject ∷ subject ∷ []) [])
     ≡ safe (call 0 (2 ∷ []) ∷ [])
-unfolding judgeBeside rounds lowestFree iterate all count
+unfolding judgeBeside rounds lowestFree iterate all count meets any
 created-beside = refl
 
 -- the closing search goes through the part's start cells: right 0 can be taken from (0,1) and given back, which the part lacks
@@ -295,7 +261,7 @@ stepsTo cs m = allRounds press (heldOf cs) m .steps
 
 -- "the judge's steps, in its order, up to the first matrix that holds them all (0 steps if the start does)"
 up-to-held : stepsTo (needs 1 0 0 ∷ needs 0 0 0 ∷ []) without ≡ call 0 (0 ∷ []) ∷ call 1 (0 ∷ 0 ∷ []) ∷ []
-unfolding rounds lowestFree iterate all count
+unfolding rounds lowestFree iterate all count meets
 up-to-held = refl
 
 no-cells : stepsTo [] without ≡ []
@@ -311,11 +277,11 @@ abbrev allSteps : List Call
 allSteps = call 0 (0 ∷ []) ∷ call 1 (0 ∷ 0 ∷ []) ∷ call 3 (1 ∷ []) ∷ call 0 (1 ∷ []) ∷ call 1 (1 ∷ 0 ∷ []) ∷ []
 
 never-held : stepsTo (needs 2 0 0 ∷ []) without ≡ allSteps
-unfolding rounds lowestFree iterate all count
+unfolding rounds lowestFree iterate all count meets
 never-held = refl
 
 by-nothing : allRounds press nothing without .steps ≡ allSteps
-unfolding rounds lowestFree iterate all count
+unfolding rounds lowestFree iterate all count meets
 by-nothing = refl
 
 -- a first rule run that the judge does not begin with
@@ -327,7 +293,7 @@ not-the-judges h =
     omega arith
 
 none-refused-either : HeldAfter press (needs 0 0 0 ∷ []) without (call 2 (0 ∷ []) ∷ call 0 (0 ∷ []) ∷ []) → ⊥
-unfolding anyRefused all
+unfolding anyRefused all meets any
 none-refused-either h = h .carried tt
 
 all-held : HeldAfter press (needs 0 0 0 ∷ needs 1 0 0 ∷ []) without (call 0 (0 ∷ []) ∷ []) → ⊥
@@ -355,7 +321,7 @@ destroysFrom m xs = destroysStart unbounded press m m xs
 
 -- as each rule run meets the state that the one before left
 destroys-later : destroysFrom without (call 0 (0 ∷ []) ∷ call 1 (0 ∷ 0 ∷ []) ∷ call 2 (0 ∷ []) ∷ []) ≡ true
-unfolding destroysStart all
+unfolding destroysStart all meets
 destroys-later = refl
 
 -- of the six operations the two destroys do, wherever in the rule, and of a name that is there
@@ -373,21 +339,21 @@ destroys-object = refl
 
 -- one that is refused destroys nothing
 refused-destroy : destroysFrom without (call 2 (0 ∷ []) ∷ call 0 (0 ∷ []) ∷ []) ≡ false
-unfolding destroysStart all
+unfolding destroysStart all meets any
 refused-destroy = refl
 
 -- a name that the run created is none of the start
 destroys-created : destroysFrom without (call 3 (1 ∷ []) ∷ call 0 (1 ∷ []) ∷ call 1 (1 ∷ 1 ∷ []) ∷ call 2 (1 ∷ []) ∷ []) ≡ false
-unfolding destroysStart all
+unfolding destroysStart all meets
 destroys-created = refl
 
 -- "no finite run that destroys no starting name": with refused rule runs, and with names "from 0 up, without a bound"
 a-refused-run : NeverHeld press (needs 0 0 0 ∷ []) without allSteps → ⊥
-unfolding destroysStart final all
+unfolding destroysStart final all meets any
 a-refused-run h = h .never (call 2 (0 ∷ []) ∷ call 0 (0 ∷ []) ∷ []) (λ t. t) tt
 
 a-large-name : NeverHeld press (needs 1 0 0 ∷ []) without allSteps → ⊥
-unfolding destroysStart final all
+unfolding destroysStart final all meets
 a-large-name h = h .never (call 3 (100000 ∷ []) ∷ call 0 (100000 ∷ []) ∷ call 1 (0 ∷ 100000 ∷ []) ∷ []) (λ t. t) tt
 
 fewer-steps : NeverHeld press (needs 2 0 0 ∷ []) without [] → ⊥

@@ -16,7 +16,8 @@ use Rattle.cases.proofs.Loops.{all-one, all-same}
 use Rattle.protection.specs.Limits.{parameters, unused}
 use Rattle.protection.specs.State.{State, subjectIn, objectIn}
 use Rattle.protection.specs.Command.{Condition, Operation, enter, delete, createSubject, createObject, destroySubject, destroyObject, Command, System, Call, Actuals, actuals, inConditions, inOperation, inOperations, named, spare, DifferInSpare}
-use Rattle.protection.specs.Execution.{meets, holds, holdAll, actualFits, canDo, put, takeOut, effect, entersNew, canDoAll, effectAll, entersAnyNew, Outcome, done, gate, executeCommand, execute}
+use Rattle.protection.specs.Carrying.{meets}
+use Rattle.protection.specs.Execution.{holds, holdAll, actualFits, canDo, put, takeOut, effect, entersNew, canDoAll, effectAll, entersAnyNew, Outcome, done, gate, executeCommand, execute}
 
 -- ---- what names a parameter is not spare
 pub named-used : (C : Command) (b : ℕ) → T (named C b) → T (not (spare C b))
@@ -53,15 +54,15 @@ module _ (nameable : ℕ → Bool) (C : Command) (a : Actuals) (fit : T (all (ac
 -- ---- two choices of actuals
 module _ (a b : Actuals) where
   -- the conditions see what they name
-  pub hold-same : (m : State) (cs : List Condition) → ((i : ℕ) → T (inConditions i cs) → b i ≡ a i) → holdAll m b cs ≡ holdAll m a cs
-  hold-same m [] e = refl
-  hold-same m (c ∷ cs) e =
+  pub hold-same : (S : System) (m : State) (cs : List Condition) → ((i : ℕ) → T (inConditions i cs) → b i ≡ a i) → holdAll S m b cs ≡ holdAll S m a cs
+  hold-same S m [] e = refl
+  hold-same S m (c ∷ cs) e =
       let s : b (c .subject) ≡ a (c .subject) = e (c .subject)
       (or-left (eqb (c .subject) (c .subject) || eqb (c .subject) (c .object)) (inConditions (c .subject) cs) (or-left (eqb (c .subject) (c .subject)) (eqb (c .subject) (c .object)) (eqb-refl (c .subject)))) in
       let o : b (c .object) ≡ a (c .object) = e (c .object)
       (or-left (eqb (c .object) (c .subject) || eqb (c .object) (c .object)) (inConditions (c .object) cs) (or-right (eqb (c .object) (c .subject)) (eqb (c .object) (c .object)) (eqb-refl (c .object)))) in
-      ap₂ _&&_ (ap₂ (λ (x y : ℕ). (subjectIn m x && objectIn m y) && meets (m .cell x y) (c .right)) s o)
-      (hold-same m cs (λ i t. e i (or-right (eqb i (c .subject) || eqb i (c .object)) (inConditions i cs) t)))
+      ap₂ _&&_ (ap₂ (λ (x y : ℕ). (subjectIn m x && objectIn m y) && meets S (m .cell x y) (c .right)) s o)
+      (hold-same S m cs (λ i t. e i (or-right (eqb i (c .subject) || eqb i (c .object)) (inConditions i cs) t)))
 
   -- an operation does, with b, what it does with a
   pub record Alike (c : Operation) : Type 0 where
@@ -104,7 +105,7 @@ module _ (a b : Actuals) where
       }
 
 -- ---- a command with actuals that differ in its spare parameters alone
-module _ (nameable : ℕ → Bool) (m : State) (C : Command) (a b : Actuals) (e : (i : ℕ) → T (not (spare C i)) → b i ≡ a i) where
+module _ (nameable : ℕ → Bool) (S : System) (m : State) (C : Command) (a b : Actuals) (e : (i : ℕ) → T (not (spare C i)) → b i ≡ a i) where
   fits-same : (i : ℕ) → actualFits nameable C b i ≡ actualFits nameable C a i
   fits-same i = go (spare C i) (λ t. e i t)
     where
@@ -113,20 +114,20 @@ module _ (nameable : ℕ → Bool) (m : State) (C : Command) (a b : Actuals) (e 
       go true h = refl
       go false h = ap (λ (x : ℕ). pick (ltb i (C .parameters)) (nameable x) (eqb x unused)) (h tt)
 
-  pub command-same : executeCommand nameable m (some C) b ≡ executeCommand nameable m (some C) a
+  pub command-same : executeCommand nameable S m (some C) b ≡ executeCommand nameable S m (some C) a
   command-same =
       let ops = operations-alike a b (C .operations) (λ i t. e i (operation-used C i t)) in
       let out : done (effectAll m b (C .operations)) (entersAnyNew m b (C .operations)) ≡ done (effectAll m a (C .operations)) (entersAnyNew m a (C .operations)) =
       λ i. done (ops .left m i) (λ r. ops .new m r i) in
       ap₂ (λ (u v : Bool). gate u 12 (gate v 14 (gate (canDoAll m b (C .operations)) 15 (done (effectAll m b (C .operations)) (entersAnyNew m b (C .operations))))))
-      (all-same (actualFits nameable C b) (actualFits nameable C a) parameters 0 (λ i _ _. fits-same i)) (hold-same a b m (C .conditions) (λ i t. e i (condition-used C i t)))
-      ∙ ap₂ (λ (u : Bool) (o : Outcome). gate (all (actualFits nameable C a) parameters 0) 12 (gate (holdAll m a (C .conditions)) 14 (gate u 15 o))) (ops .can m) out
+      (all-same (actualFits nameable C b) (actualFits nameable C a) parameters 0 (λ i _ _. fits-same i)) (hold-same a b S m (C .conditions) (λ i t. e i (condition-used C i t)))
+      ∙ ap₂ (λ (u : Bool) (o : Outcome). gate (all (actualFits nameable C a) parameters 0) 12 (gate (holdAll S m a (C .conditions)) 14 (gate u 15 o))) (ops .can m) out
 
 -- Document 02, C-11: job numbers in spare blanks change nothing of what a call comes to.
 pub spare-ignored : (nameable : ℕ → Bool) (S : System) (m : State) (x y : Call) → DifferInSpare S x y → execute nameable S m y ≡ execute nameable S m x
 spare-ignored nameable S m x y D =
-    ap (λ (i : ℕ). executeCommand nameable m (getElem? (S .commands) i) (actuals y)) (D .same-command) ∙ go (getElem? (S .commands) (x .command)) refl
+    ap (λ (i : ℕ). executeCommand nameable S m (getElem? (S .commands) i) (actuals y)) (D .same-command) ∙ go (getElem? (S .commands) (x .command)) refl
   where
-    go : (w : Option Command) → getElem? (S .commands) (x .command) ≡ w → executeCommand nameable m w (actuals y) ≡ executeCommand nameable m w (actuals x)
+    go : (w : Option Command) → getElem? (S .commands) (x .command) ≡ w → executeCommand nameable S m w (actuals y) ≡ executeCommand nameable S m w (actuals x)
     go none d = refl
-    go (some C) d = command-same nameable m C (actuals x) (actuals y) (D .same-actual C d)
+    go (some C) d = command-same nameable S m C (actuals x) (actuals y) (D .same-actual C d)

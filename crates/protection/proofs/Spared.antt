@@ -55,7 +55,7 @@ module _ (S : System) (singles : Singles S) (m₀ M : State) (fresh : ℕ) (K : 
     destroyed : (n : ℕ) → (T (objectIn m₀ n) → ⊥) → Seen (renew m n absent)
     destroyed n new = renamed n 0 absent new (λ t. absurd t) (λ t. absurd t)
 
-    step : (C : Command) (c : Operation) → Has S C c → (a : Actuals) → T (ready C m a) → T (canDo m a c) → (T (destroysOld m₀ a c) → ⊥) → Seen (effect m a c)
+    step : (C : Command) (c : Operation) → Has S C c → (a : Actuals) → T (ready S C m a) → T (canDo m a c) → (T (destroysOld m₀ a c) → ⊥) → Seen (effect m a c)
     step C (enter q s o) H a able can spared = (f, record { maps = maps-enter S m₀ M fresh K m f (σ .maps) C q s o H a able can; fixed = σ .fixed })
     step C (delete q s o) H a able can spared = (f, record { maps = maps-delete S m₀ M fresh K m f (σ .maps) q (a s) (a o); fixed = σ .fixed })
     step C (createSubject s) H a able can spared = created (a s) subject can (newcomer-subject S m₀ M fresh K m f (σ .maps) C s H a able can)

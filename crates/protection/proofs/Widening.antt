@@ -21,19 +21,19 @@ use Rattle.protection.specs.Leak.{after, isRefused, isLeak, leaks, anyRe
 
 -- P and Q say which numbers a call may give as names
 -- what a call does where P names are allowed, it does where Q names are
-abbrev Carries : (ℕ → Bool) → (ℕ → Bool) → System → Call → Type 0
-Carries P Q S x = (m m' : State) (new : ℕ → Bool) → execute P S m x ≡ done m' new → execute Q S m x ≡ done m' new
+abbrev DoneToo : (ℕ → Bool) → (ℕ → Bool) → System → Call → Type 0
+DoneToo P Q S x = (m m' : State) (new : ℕ → Bool) → execute P S m x ≡ done m' new → execute Q S m x ≡ done m' new
 
-abbrev CarriesAll : (ℕ → Bool) → (ℕ → Bool) → System → List Call → Type 0
-CarriesAll P Q S [] = Unit {0}
-CarriesAll P Q S (x ∷ xs) = Carries P Q S x × CarriesAll P Q S xs
+abbrev DoneTooAll : (ℕ → Bool) → (ℕ → Bool) → System → List Call → Type 0
+DoneTooAll P Q S [] = Unit {0}
+DoneTooAll P Q S (x ∷ xs) = DoneToo P Q S x × DoneTooAll P Q S xs
 
 -- a call whose actuals, but for spare parameters, fit under P and under Q
-carries : (P Q : ℕ → Bool) (S : System) (x : Call)
-    → ((C : Command) → getElem? (S .commands) (x .command) ≡ some C → (b : ℕ) → b < C .parameters → T (not (spare C b)) → T (P (actuals x b)) → T (Q (actuals x b))) → Carries P Q S x
-carries P Q S x h m m' new e = go (getElem? (S .commands) (x .command)) refl e
+done-too : (P Q : ℕ → Bool) (S : System) (x : Call)
+    → ((C : Command) → getElem? (S .commands) (x .command) ≡ some C → (b : ℕ) → b < C .parameters → T (not (spare C b)) → T (P (actuals x b)) → T (Q (actuals x b))) → DoneToo P Q S x
+done-too P Q S x h m m' new e = go (getElem? (S .commands) (x .command)) refl e
   where
-    go : (w : Option Command) → getElem? (S .commands) (x .command) ≡ w → executeCommand P m w (actuals x) ≡ done m' new → executeCommand Q m w (actuals x) ≡ done m' new
+    go : (w : Option Command) → getElem? (S .commands) (x .command) ≡ w → executeCommand P S m w (actuals x) ≡ done m' new → executeCommand Q S m w (actuals x) ≡ done m' new
     go none d e = e
     go (some C) d e = gates (all (actualFits P C (actuals x)) parameters 0) refl e
       where
@@ -47,9 +47,9 @@ carries P Q S x h m m' new e = go (getElem? (S .commands) (x .command)) refl e
             by false false u l e = e
 
         gates : (c : Bool) → all (actualFits P C (actuals x)) parameters 0 ≡ c
-            → gate c 12 (gate (holdAll m (actuals x) (C .conditions)) 14 (gate (canDoAll m (actuals x) (C .operations)) 15
+            → gate c 12 (gate (holdAll S m (actuals x) (C .conditions)) 14 (gate (canDoAll m (actuals x) (C .operations)) 15
             (done (effectAll m (actuals x) (C .operations)) (entersAnyNew m (actuals x) (C .operations))))) ≡ done m' new
-            → executeCommand Q m (some C) (actuals x) ≡ done m' new
+            → executeCommand Q S m (some C) (actuals x) ≡ done m' new
         gates true d e =
             let z : all (actualFits Q C (actuals x)) parameters 0 ≡ true =
             all-intro (actualFits Q C (actuals x)) parameters 0 (λ b l k. fits b (all-at (actualFits P C (actuals x)) parameters 0 d b l k)) in
@@ -57,7 +57,7 @@ carries P Q S x h m m' new e = go (getElem? (S .commands) (x .command)) refl e
         gates false d e = absurd (let z : _≡_ {A = ℕ} 0 1 = cc in omega arith)
 
 module _ (P Q : ℕ → Bool) (S : System) (r : ℕ) where
-  carried-same : (xs : List Call) (m : State) → CarriesAll P Q S xs → (T (anyRefused P S m xs) → ⊥) → (anyRefused Q S m xs ≡ false) × (leaks Q S r m xs ≡ leaks P S r m xs)
+  carried-same : (xs : List Call) (m : State) → DoneTooAll P Q S xs → (T (anyRefused P S m xs) → ⊥) → (anyRefused Q S m xs ≡ false) × (leaks Q S r m xs ≡ leaks P S r m xs)
   unfolding anyRefused leaks
   carried-same [] m h f = (refl, refl)
   carried-same (x ∷ xs) m h f = go (execute P S m x) refl (λ m'. carried-same xs m' (h .1)) f
@@ -81,13 +81,13 @@ module _ (P Q : ℕ → Bool) (S : System) (r : ℕ) where
       (λ b. or-right (isRefused (execute P S m x)) (anyRefused P S (after (execute P S m x) m) (y ∷ xs)) (init-carried (y ∷ xs) (after (execute P S m x) m) b))
       (or-cases (isRefused (execute P S m x)) (anyRefused P S (after (execute P S m x) m) (init (y ∷ xs))) t)
 
-  init-all : (xs : List Call) → CarriesAll P Q S xs → CarriesAll P Q S (init xs)
+  init-all : (xs : List Call) → DoneTooAll P Q S xs → DoneTooAll P Q S (init xs)
   init-all [] h = tt
   init-all (x ∷ []) h = tt
   init-all (x ∷ y ∷ xs) h = (h .0, init-all (y ∷ xs) (h .1))
 
-  last-carries : (xs : List Call) (m : State) → CarriesAll P Q S xs → LeaksLast P S r m xs → LeaksLast Q S r m xs
-  last-carries xs m h L =
+  last-done-too : (xs : List Call) (m : State) → DoneTooAll P Q S xs → LeaksLast P S r m xs → LeaksLast Q S r m xs
+  last-done-too xs m h L =
       let whole = carried-same xs m h (L .carried) in
       let most = carried-same (init xs) m (init-all xs h) (λ t. L .carried (init-carried xs m t)) in
       record { carried = fails (anyRefused Q S m xs) (whole .0); leak = subst T (sym (whole .1)) (L .leak); sooner = λ t. L .sooner (subst T (most .1) t) }
@@ -99,20 +99,20 @@ NamesOfFile S (x ∷ xs) = ((C : Command) → getElem? (S .commands) (x .command
 
 -- what is carried out on the names of a file is carried out on names without number
 pub call-unbounded : (S : System) (x : Call) (m m' : State) (new : ℕ → Bool) → execute bounded S m x ≡ done m' new → execute unbounded S m x ≡ done m' new
-call-unbounded S x = carries bounded unbounded S x (λ C _ b _ _ _. tt)
+call-unbounded S x = done-too bounded unbounded S x (λ C _ b _ _ _. tt)
 
 module _ (S : System) (r : ℕ) where
-  widen : (xs : List Call) → CarriesAll bounded unbounded S xs
+  widen : (xs : List Call) → DoneTooAll bounded unbounded S xs
   widen [] = tt
   widen (x ∷ xs) = (call-unbounded S x, widen xs)
 
-  narrow : (xs : List Call) → NamesOfFile S xs → CarriesAll unbounded bounded S xs
+  narrow : (xs : List Call) → NamesOfFile S xs → DoneTooAll unbounded bounded S xs
   narrow [] h = tt
-  narrow (x ∷ xs) h = (carries unbounded bounded S x (λ C d b l u _. h .0 C d b l u), narrow xs (h .1))
+  narrow (x ∷ xs) h = (done-too unbounded bounded S x (λ C d b l u _. h .0 C d b l u), narrow xs (h .1))
 
   -- a leak at the last step on the names of a file is one on names without number, and the other way where the run gives names of a file
   pub last-unbounded : (xs : List Call) (m : State) → LeaksLast bounded S r m xs → LeaksLast unbounded S r m xs
-  last-unbounded xs m = last-carries bounded unbounded S r xs m (widen xs)
+  last-unbounded xs m = last-done-too bounded unbounded S r xs m (widen xs)
 
   pub last-bounded : (xs : List Call) (m : State) → NamesOfFile S xs → LeaksLast unbounded S r m xs → LeaksLast bounded S r m xs
-  last-bounded xs m h = last-carries unbounded bounded S r xs m (narrow xs h)
+  last-bounded xs m h = last-done-too unbounded bounded S r xs m (narrow xs h)

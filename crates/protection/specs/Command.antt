@@ -23,9 +23,10 @@ pub record Command : Type 0 where
   pub conditions : List Condition
   pub operations : List Operation
 
--- a protection system: the number of rights, and the commands
+-- a protection system: the number of rights, which right the file says that a right carries (document 02, C-19), and the commands
 pub record System : Type 0 where
   pub rights : ℕ
+  pub carried : ℕ → ℕ → Bool
   pub commands : List Command
 
 -- "each rule run is a rule number and four actuals, all whole numbers from 0 up"

@@ -9,6 +9,7 @@ use Rattle.cases.specs.Cases.{pick, all}
 use Rattle.protection.specs.Limits.{names, parameters, unused}
 use Rattle.protection.specs.State.{Kind, absent, object, subject, State, objectIn, subjectIn}
 use Rattle.protection.specs.Command.{Condition, Operation, enter, delete, createSubject, createObject, destroySubject, destroyObject, Command, System, Call, Actuals, actuals, spare}
+use Rattle.protection.specs.Carrying.{meets}
 
 -- which numbers a call may give as names: on the file's matrix those below 32, on the printer's machine all
 abbrev pub bounded : ℕ → Bool
@@ -18,17 +19,13 @@ abbrev pub unbounded : ℕ → Bool
 unbounded x = true
 
 -- ---- conditions
--- a set of rights meets a condition on right q: the right is in it
-abbrev pub meets : (ℕ → Bool) → ℕ → Bool
-meets set q = set q
+-- "the subject blank's name is a subject, the object blank's exists", and "some right in the cell carries the one named" (document 02, C-19)
+abbrev pub holds : System → State → Actuals → Condition → Bool
+holds S m a c = (subjectIn m (a (c .subject)) && objectIn m (a (c .object))) && meets S (m .cell (a (c .subject)) (a (c .object))) (c .right)
 
--- "the subject blank's name is a subject, the object blank's exists, the right is in the cell"
-abbrev pub holds : State → Actuals → Condition → Bool
-holds m a c = (subjectIn m (a (c .subject)) && objectIn m (a (c .object))) && meets (m .cell (a (c .subject)) (a (c .object))) (c .right)
-
-abbrev pub holdAll : State → Actuals → List Condition → Bool
-holdAll m a [] = true
-holdAll m a (c ∷ cs) = holds m a c && holdAll m a cs
+abbrev pub holdAll : System → State → Actuals → List Condition → Bool
+holdAll S m a [] = true
+holdAll S m a (c ∷ cs) = holds S m a c && holdAll S m a cs
 
 -- a blank that no condition and no step names "takes any byte" (document 02, C-11); the others have names, and "positions from k on hold 255"
 abbrev pub actualFits : (ℕ → Bool) → Command → Actuals → ℕ → Bool
@@ -100,13 +97,13 @@ gate false n o = refused n
 
 -- 11 no such rule; 12 an actual above 31 in a named blank or not 255 from k on; 14 a condition not held; 15 a step that cannot be done. 13 is given by nobody
 -- since a spare blank takes any byte.
-abbrev pub executeCommand : (ℕ → Bool) → State → Option Command → Actuals → Outcome
-executeCommand nameable m none a = refused 11
-executeCommand nameable m (some C) a =
+abbrev pub executeCommand : (ℕ → Bool) → System → State → Option Command → Actuals → Outcome
+executeCommand nameable S m none a = refused 11
+executeCommand nameable S m (some C) a =
     gate (all (actualFits nameable C a) parameters 0) 12
-    (gate (holdAll m a (C .conditions)) 14
+    (gate (holdAll S m a (C .conditions)) 14
     (gate (canDoAll m a (C .operations)) 15
     (done (effectAll m a (C .operations)) (entersAnyNew m a (C .operations)))))
 
 abbrev pub execute : (ℕ → Bool) → System → State → Call → Outcome
-execute nameable S m x = executeCommand nameable m (getElem? (S .commands) (x .command)) (actuals x)
+execute nameable S m x = executeCommand nameable S m (getElem? (S .commands) (x .command)) (actuals x)

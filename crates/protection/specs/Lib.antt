@@ -3,6 +3,7 @@ pub mod State
 pub mod Size
 pub mod Proper
 pub mod Command
+pub mod Carrying
 pub mod Execution
 pub mod Leak
 pub mod Judge

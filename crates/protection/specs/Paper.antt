@@ -5,7 +5,8 @@ use mathlib.Core.List.{List, [], _∷_}
 use Prim.Native.Nat.{ℕ}
 use lib.Dec.{T, eqb}
 use Rattle.protection.specs.State.{Kind, absent, object, subject, isObject, isSubject, State, objectIn, subjectIn}
-use Rattle.protection.specs.Command.{Condition, Operation, enter, delete, createSubject, createObject, destroySubject, destroyObject, Command, Actuals}
+use Rattle.protection.specs.Command.{Condition, Operation, enter, delete, createSubject, createObject, destroySubject, destroyObject, Command, System, Actuals}
+use Rattle.protection.specs.Carrying.{Carries}
 
 -- "A configuration of a protection system is a triple (S, O, P), where S is the set of current subjects, O is the set of current objects, S ⊆ O, and
 -- P is an access matrix, with a row for every subject in S and a column for every object in O." What P says elsewhere is no part of it.
@@ -120,4 +121,20 @@ SatisfiedAll (c ∷ cs) a C = Satisfied C (c .right) (a (c .subject)) (a (c .obj
 -- (S,O,P) ⊢ (S',O',P') under the command, its formal parameters replaced by actual ones
 pub record Executes (C : Command) (a : Actuals) (D E : Configuration) : Type 0 where
   pub conditions : SatisfiedAll (C .conditions) a D
+  pub operations : YieldsAll (C .operations) a D E
+
+-- ---- with rights that carry others (document 02, C-19): the same relation, but that a condition is read over what the cell's rights carry
+-- "some right in the cell carries the one named", where P has a row s and a column o
+pub record Met (S : System) (C : Configuration) (r s o : ℕ) : Type 0 where
+  pub row : T (C .S s)
+  pub column : T (C .O o)
+  pub right : (i : ℕ) × T (C .P s o i) × Carries S i r
+
+abbrev pub MetAll : System → List Condition → Actuals → Configuration → Type 0
+MetAll S [] a C = Unit {0}
+MetAll S (c ∷ cs) a C = Met S C (c .right) (a (c .subject)) (a (c .object)) × MetAll S cs a C
+
+-- without carries it is `Executes` (`executes-plain`)
+pub record ExecutesUnder (S : System) (C : Command) (a : Actuals) (D E : Configuration) : Type 0 where
+  pub conditions : MetAll S (C .conditions) a D
   pub operations : YieldsAll (C .operations) a D E

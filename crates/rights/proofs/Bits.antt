@@ -1,12 +1,12 @@
--- The digits of a number to base 2 under `|`, `^` and `<<`, at any width. Assumes nothing.
-use Prim.Native.Nat.{ℕ, zero, suc, _+_, _-_, _*_, _/_, _%_, _^_, _≤_, _<_, max}
+-- The digits of a number to base 2 under `&`, `|`, `^` and `<<`, at any width. Assumes nothing.
+use Prim.Native.Nat.{ℕ, zero, suc, _+_, _-_, _*_, _/_, _%_, _^_, _≤_, _<_, min, max}
 use mathlib.Core.Path.{_≡_, refl, sym, ap, _∙_}
 use native.Mathlib.Nat.{one-mul, div-eq-of-lt, mul-mod-left, mul-add-mod-self-right, mod-eq-of-lt, mod-lt, pow-suc, div-self}
 use native.Mathlib.Decide.{decLt}
 use native.Mathlib.Omega.{arith}
 use lib.Dec.{lit<}
 use lib.Pow.{pow-pos, pow-lt, pow-add, shl-exact, shl-shr}
-use lib.Bits.{bitOr, bitXor, differ, or-step, xor-step, or-shr, xor-shr}
+use lib.Bits.{bitAnd, bitOr, bitXor, differ, and-step, or-step, xor-step, and-shr, or-shr, xor-shr}
 use Rattle.rights.specs.Rights.{bit, insert, delete}
 
 -- what `1 << i` computes to, at a width of w bits
@@ -22,6 +22,13 @@ or-low a b =
 
 pub bit-or : (a b j : ℕ) → bit (bitOr a b) j ≡ max (bit a j) (bit b j)
 bit-or a b j = rw (or-shr a b j) (or-low (a / 2 ^ j) (b / 2 ^ j))
+
+and-low : (a b : ℕ) → bitAnd a b % 2 ≡ min (a % 2) (b % 2)
+and-low a b =
+    rw (and-step a b, mul-add-mod-self-right) (mod-eq-of-lt (let p : a % 2 < 2 = mod-lt a (lit< tt) in let q : b % 2 < 2 = mod-lt b (lit< tt) in omega arith))
+
+pub bit-and : (a b j : ℕ) → bit (bitAnd a b) j ≡ min (bit a j) (bit b j)
+bit-and a b j = rw (and-shr a b j) (and-low (a / 2 ^ j) (b / 2 ^ j))
 
 differ-lt : (x y : ℕ) → x < 2 → y < 2 → differ x y < 2
 differ-lt zero y p q = q

@@ -1,17 +1,17 @@
 -- The laws of a set of rights held in a number, at any width. Assumes nothing.
-use Prim.Native.Nat.{ℕ, zero, suc, _+_, _-_, _*_, _/_, _%_, _^_, _≤_, _<_}
+use Prim.Native.Nat.{ℕ, zero, suc, _+_, _-_, _*_, _/_, _%_, _^_, _≤_, _<_, min, max}
 use mathlib.Core.Path.{_≡_, refl, sym, ap, ap₂, _∙_, subst}
-use mathlib.Core.Bool.{Bool, true, false}
+use mathlib.Core.Bool.{Bool, true, false, _&&_, _||_}
 use native.Mathlib.Nat.{div-eq-of-lt, div-div-eq-div-mul, pow-succ', div-lt-iff-lt-mul, pow-le-pow-right, le-trans, div-one, pow-zero}
 use native.Mathlib.Decide.{decLt, ℕ-discrete}
 use native.Mathlib.Omega.{arith}
 use borrow.Author.Tests.{eq-eqb, ne-eqb, eqb-true, eqb-false}
-use lib.Bits.{bitOr, or-lt, xor-lt}
+use lib.Bits.{bitAnd, bitOr, or-lt, xor-lt}
 use lib.Dec.{T, eqb, lit<}
 use lib.Pow.{pow-pos, pow-lt}
 use Rattle.cases.specs.Cases.{pick}
 use Rattle.rights.specs.Rights.{bit, has, insert, delete, number}
-use Rattle.rights.proofs.Bits.{bit-lt, bit-insert-same, bit-insert-other, bit-delete-same, bit-delete-other}
+use Rattle.rights.proofs.Bits.{bit-lt, bit-and, bit-or, bit-insert-same, bit-insert-other, bit-delete-same, bit-delete-other}
 
 -- ---- insert and delete
 pub has-insert-same : (c i : ℕ) → has (insert c i) i ≡ true
@@ -25,6 +25,31 @@ has-delete-same c i = rw (bit-delete-same c i)
 
 pub has-delete-other : (c i j : ℕ) → (i ≡ j → ⊥) → has (delete c i) j ≡ has c j
 has-delete-other c i j ne = rw (bit-delete-other c i j ne)
+
+-- ---- both sets, and either
+two : (x y : ℕ) → x < 2 → y < 2 → eqb (min x y) 1 ≡ eqb x 1 && eqb y 1
+two zero zero p q = refl
+two zero (suc zero) p q = refl
+two (suc zero) zero p q = refl
+two (suc zero) (suc zero) p q = refl
+two zero (suc (suc y)) p q = absurd (omega arith)
+two (suc zero) (suc (suc y)) p q = absurd (omega arith)
+two (suc (suc x)) y p q = absurd (omega arith)
+
+pub has-and : (a b j : ℕ) → has (bitAnd a b) j ≡ has a j && has b j
+has-and a b j = rw (bit-and a b j) (two (bit a j) (bit b j) (bit-lt a j) (bit-lt b j))
+
+or-two : (x y : ℕ) → x < 2 → y < 2 → eqb (max x y) 1 ≡ eqb x 1 || eqb y 1
+or-two zero zero p q = refl
+or-two zero (suc zero) p q = refl
+or-two (suc zero) zero p q = refl
+or-two (suc zero) (suc zero) p q = refl
+or-two zero (suc (suc y)) p q = absurd (omega arith)
+or-two (suc zero) (suc (suc y)) p q = absurd (omega arith)
+or-two (suc (suc x)) y p q = absurd (omega arith)
+
+pub has-or : (a b j : ℕ) → has (bitOr a b) j ≡ has a j || has b j
+has-or a b j = rw (bit-or a b j) (or-two (bit a j) (bit b j) (bit-lt a j) (bit-lt b j))
 
 -- no right from g on comes in
 pub insert-below : (g c i : ℕ) → i < g → c < 2 ^ g → insert c i < 2 ^ g

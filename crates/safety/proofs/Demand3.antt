@@ -40,10 +40,11 @@ use Rattle.goals.proofs.Ending.{none-reserved}
 use Rattle.visits.specs.Engine.{Asked}
 use Rattle.visits.proofs.Asked.{taken}
 use Rattle.questions.proofs.Refusals.{sized}
+use Rattle.questions.proofs.Starting.{policy-told}
 use Rattle.safety.specs.Demand3.{stepsWritten, isSafe, isUnsafe, Demand3}
 use Rattle.safety.specs.Judgement.{callerRefusal, judgeRefusal, fileVerdict, judgementOf, fileJudgement, bytesOf, filled, fileBuffer, FileDemand3, Judged}
 use Rattle.policy.specs.Fits.{PolicyFits}
-use Rattle.masks.specs.Told.{Told}
+use Rattle.masks.specs.Told.{Told, ToldBy}
 use Rattle.masks.specs.declared.Tables.{Tables}
 use Rattle.questions.specs.Rounded.{BasisOf}
 use Rattle.questions.specs.declared.Basis.{Basis}
@@ -201,9 +202,13 @@ module _ (f : List ℕ) (r : ℕ) (b : List ℕ) where
             judged f r b answer b' (C .answer-is ∙ ap judgementOf verdict-is ∙ sym (judges f r (length b) q)) (C .buffer-is ∙ ap (λ (w : Verdict). filled (w .steps) b) verdict-is ∙ sym (fills f r b q))
 
 -- ---- a file that is prepared
-pub prepared-is : (x : PolicyRead) (B : Basis) (t : Tables) → (x .refused ≡ 0 → BasisOf (x .policy) B) → Told (x .policy .matrix .cells) t → (f : List ℕ) → x ≡ policyRead f
-    → PreparedOf f (record { read = x; basis = B; tables = t })
-prepared-is x B t h k f d = record { read-is = d; basis-is = h; told = k }
+pub prepared-is : (f : List ℕ) (x : PolicyRead) (B : Basis) (t : Tables) → x ≡ policyRead f → (x .refused ≡ 0 → BasisOf (x .policy) B)
+    → ToldBy (x .policy .carried) (x .policy .matrix .cells) t → PreparedOf f (record { read = x; basis = B; tables = t })
+prepared-is f x B t d basis h = record { read-is = d; basis-is = basis; told = λ z. policy-told (x .policy) (x .policy .matrix .cells) t (policy-fits-read f x d z) h }
+
+-- of a refused file nothing is known
+pub basis-none : (x : PolicyRead) (B : Basis) → (x .refused ≡ 0 → ⊥) → x .refused ≡ 0 → BasisOf (x .policy) B
+basis-none x B n z = absurd (n z)
 
 pub basis-fits : (x : PolicyRead) → ((f : List ℕ) × (x ≡ policyRead f)) → x .refused ≡ 0 → PolicyFits (x .policy)
 basis-fits x d z = policy-fits-read (d .0) x (d .1) z
@@ -230,5 +235,5 @@ module _ (f : List ℕ) (r : ℕ) (b : List ℕ) (y : Prepared) (P : PreparedOf 
 pub prepared-basis : (y : Prepared) → ((f : List ℕ) × PreparedOf f y) → y .read .refused ≡ 0 → BasisOf (y .read .policy) (y .basis)
 prepared-basis y P z = P .1 .basis-is z
 
-pub prepared-told : (y : Prepared) → ((f : List ℕ) × PreparedOf f y) → Told (y .read .policy .matrix .cells) (y .tables)
-prepared-told y P = P .1 .told
+pub prepared-told : (y : Prepared) → ((f : List ℕ) × PreparedOf f y) → y .read .refused ≡ 0 → Told (systemOf (y .read .policy)) (y .read .policy .matrix .cells) (y .tables)
+prepared-told y P z = P .1 .told z

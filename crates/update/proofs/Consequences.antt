@@ -1,30 +1,38 @@
 -- What follows from demand 2 alone, and from the promise of a rule run alone, whatever the answer and the file after it: at least a sentence for each field.
 -- Assumes nothing.
-use Prim.Native.Nat.{ℕ, _≤_, _<_}
+use Prim.Native.Nat.{ℕ, _+_, _≤_, _<_}
 use mathlib.Core.Path.{_≡_, refl, sym, _∙_}
 use mathlib.Core.List.{List}
 use mathlib.Core.Logic.{_↔_, _⊎_, inl, inr}
 use mathlib.Core.Option.{some}
-use native.Mathlib.Decide.{ℕ-discrete}
-use mathlib.Core.Bool.{not}
+use native.Mathlib.Decide.{decLt, ℕ-discrete}
+use native.Mathlib.Omega.{arith}
+use mathlib.Core.Bool.{false, not}
 use lib.Dec.{T, ltb→lt}
-use lib.ListN.{getElem?}
-use Rattle.protection.specs.Limits.{names, parameters}
-use Rattle.protection.specs.Command.{Command, Call, actuals, spare}
+use lib.ListN.{getD, getElem?, List·getD-eq-default}
+use Rattle.cases.proofs.Lists.{length-tabulate}
+use Rattle.protection.specs.Limits.{names, rights, parameters}
+use Rattle.protection.specs.Command.{Command, Call, Actuals, actuals, spare}
 use Rattle.protection.specs.Execution.{bounded}
-use Rattle.protection.specs.Paper.{Configuration, configuration, Same, Executes}
+use Rattle.protection.specs.Paper.{Configuration, configuration, Same, Executes, ExecutesUnder}
 use Rattle.protection.specs.Agreement.{Admitted}
 use Rattle.protection.proofs.Consequences.{admitted-name}
+use Rattle.protection.proofs.Carrying.{executes-plain}
+use Rattle.rights.specs.Rights.{has}
+use Rattle.rights.proofs.Sets.{has-none}
+use Rattle.layout.specs.File.{carriesIn}
+use Rattle.carries.specs.Bytes.{carriesTable}
+use Rattle.carries.proofs.Sets.{getD-table}
 use Rattle.policy.specs.Refusals.{refusal}
-use Rattle.policy.specs.Contents.{fileState, fileSystem}
+use Rattle.policy.specs.Contents.{policyOf, fileState, fileSystem}
 use Rattle.update.specs.Demand2.{Demand2}
 use Rattle.update.specs.Files.{FileRun}
 
--- document 01 admits the call, and the paper's relation executes the command from the file's configuration to E
+-- document 01 admits the call, and the relation executes the command from the file's configuration to E
 pub record ExecutedTo (f : List ℕ) (x : Call) (E : Configuration) : Type 0 where
   pub command : Command
   pub admitted : Admitted bounded (fileSystem f) x command
-  pub executes : Executes command (actuals x) (configuration (fileState f)) E
+  pub executes : ExecutesUnder (fileSystem f) command (actuals x) (configuration (fileState f)) E
 
 module _ (f : List ℕ) (x : Call) (r : ℕ) (f' : List ℕ) (D : Demand2 f x r f') where
   -- a refused rule run, for whatever reason, changes no byte
@@ -77,6 +85,42 @@ module _ (f : List ℕ) (x : Call) (r : ℕ) (f' : List ℕ) (D : Demand2 f x r 
       let same : y .command ≡ C = cc (y .admitted .found) in
       let A : Admitted bounded (fileSystem f) x C = rw same at (y .admitted) in
       ltb→lt (actuals x b) names (admitted-name bounded (fileSystem f) x C A few b l used)
+
+-- ---- a file in which no right carries another: the relation is the paper's
+-- demand 2 as it stands without carries, over the paper's own relation
+pub record PaperDemand2 (f : List ℕ) (x : Call) (r : ℕ) (f' : List ℕ) : Type 0 where
+  pub done-executes : refusal f ≡ 0 → r ≡ 0
+      → (C : Command) × Admitted bounded (fileSystem f) x C × Executes C (actuals x) (configuration (fileState f)) (configuration (fileState f'))
+  pub executes-done : refusal f ≡ 0 → (C : Command) (E : Configuration) → Admitted bounded (fileSystem f) x C → Executes C (actuals x) (configuration (fileState f)) E
+      → (r ≡ 0) × Same (configuration (fileState f')) E
+  pub refused-why : refusal f ≡ 0 → (r ≡ 0 → ⊥)
+      → (f' ≡ f) × ((C : Command) (E : Configuration) → Admitted bounded (fileSystem f) x C → Executes C (actuals x) (configuration (fileState f)) E → ⊥)
+
+module _ (f : List ℕ) (none : (i : ℕ) → getD (carriesIn f) i 0 ≡ 0) where
+  carried-none : (i j : ℕ) → fileSystem f .carried i j ≡ false
+  unfolding policyOf
+  carried-none i j = go (decLt i rights)
+    where
+      empty : (c : ℕ) → c ≡ 0 → has c j ≡ false
+      empty c e = rw e (has-none j)
+
+      go : Dec (i < rights) → has (getD (carriesTable (carriesIn f)) i 0) j ≡ false
+      go (yes l) = empty (getD (carriesTable (carriesIn f)) i 0) (getD-table (λ k. getD (carriesIn f) k 0) i l ∙ none i)
+      go (no l) =
+          empty (getD (carriesTable (carriesIn f)) i 0)
+          (List·getD-eq-default (carriesTable (carriesIn f)) 0 {n = i} (omega (arith, length-tabulate (λ k. getD (carriesIn f) k 0) rights 0)))
+
+  pub file-plain : (C : Command) (a : Actuals) (D E : Configuration) → ExecutesUnder (fileSystem f) C a D E ↔ Executes C a D E
+  file-plain = executes-plain (fileSystem f) carried-none
+
+  pub plain-demand2 : (x : Call) (r : ℕ) (f' : List ℕ) → Demand2 f x r f' → PaperDemand2 f x r f'
+  plain-demand2 x r f' D = record {
+    done-executes = λ z e. let d = D .done-executes z e in
+        (d .0, d .1, file-plain (d .0) (actuals x) (configuration (fileState f)) (configuration (fileState f')) .0 (d .2));
+    executes-done = λ z C E A y. D .executes-done z C E A (file-plain C (actuals x) (configuration (fileState f)) E .1 y);
+    refused-why = λ z n. let w = D .refused-why z n in
+        (w .0, λ C E A y. w .1 C E A (file-plain C (actuals x) (configuration (fileState f)) E .1 y));
+  }
 
 -- on a file that is refused every call has the same answer
 pub same-refusal : (f : List ℕ) → (refusal f ≡ 0 → ⊥) → (x y : Call) (r s : ℕ) (f' f'' : List ℕ) → Demand2 f x r f' → Demand2 f y s f'' → r ≡ s

@@ -14,9 +14,9 @@ use Rattle.cases.specs.Cases.{all, tabulate}
 use Rattle.cases.proofs.Lists.{found-tabulate, none-tabulate}
 use Rattle.protection.specs.Limits.{names, rights, parameters}
 use Rattle.protection.specs.State.{State}
-use Rattle.protection.specs.Command.{Operation as ModelOperation, enter, delete, createSubject, createObject, destroySubject, destroyObject, Command as ModelCommand, Call, Actuals, actuals, valuesOf, inOperation}
+use Rattle.protection.specs.Command.{Operation as ModelOperation, enter, delete, createSubject, createObject, destroySubject, destroyObject, Command as ModelCommand, System, Call, Actuals, actuals, valuesOf, inOperation}
 use Rattle.protection.specs.Execution.{bounded, holdAll, actualFits, canDoAll, effectAll, entersAnyNew, Outcome, refused, done, gate, executeCommand}
-use Rattle.protection.specs.Paper.{Configuration, configuration, Same, Executes}
+use Rattle.protection.specs.Paper.{Configuration, configuration, Same, ExecutesUnder}
 use Rattle.protection.specs.Agreement.{Admitted, Agrees}
 use Rattle.protection.proofs.Model.{machine-is-model, gates-elim}
 use Rattle.protection.proofs.Spare.{named-used, fits-name}
@@ -39,13 +39,13 @@ use Rattle.update.specs.Files.{fileOutcome, codeOf, rewritten, runCode, 
 use Rattle.update.proofs.Preserved.{Sound, SoundAll, sound-steps, proper-all}
 
 -- ---- a refusal of the machine is one of 11 to 15
-refused-number : (nameable : ℕ → Bool) (m : State) (w : Option ModelCommand) (a : Actuals) (n : ℕ) → executeCommand nameable m w a ≡ refused n → 11 ≤ n
-refused-number nameable m none a n e = let z : 11 ≡ n = number 11 n e in omega arith
+refused-number : (nameable : ℕ → Bool) (S : System) (m : State) (w : Option ModelCommand) (a : Actuals) (n : ℕ) → executeCommand nameable S m w a ≡ refused n → 11 ≤ n
+refused-number nameable S m none a n e = let z : 11 ≡ n = number 11 n e in omega arith
   where
     number : (k n : ℕ) → refused k ≡ refused n → k ≡ n
     number k n e = cc
-refused-number nameable m (some C) a n e =
-    go (all (actualFits nameable C a) parameters 0) (holdAll m a (C .conditions)) (canDoAll m a (C .operations)) e
+refused-number nameable S m (some C) a n e =
+    go (all (actualFits nameable C a) parameters 0) (holdAll S m a (C .conditions)) (canDoAll m a (C .operations)) e
   where
     number : (k n : ℕ) → refused k ≡ refused n → k ≡ n
     number k n e = cc
@@ -89,14 +89,14 @@ module _ (f : List ℕ) (A : Accepted f) (x : Call) where
       code : ℕ → Command
       code j = getD (policyOf f .command) j missing
 
-      call : (w : Option ModelCommand) → getElem? (fileSystem f .commands) (x .command) ≡ w → fileOutcome f x ≡ executeCommand bounded (fileState f) w (actuals x)
-      call w e = ap (λ (v : Option ModelCommand). executeCommand bounded (fileState f) v (actuals x)) e
+      call : (w : Option ModelCommand) → getElem? (fileSystem f .commands) (x .command) ≡ w → fileOutcome f x ≡ executeCommand bounded (fileSystem f) (fileState f) w (actuals x)
+      call w e = ap (λ (v : Option ModelCommand). executeCommand bounded (fileSystem f) (fileState f) v (actuals x)) e
 
-      by : (C : Command) → Fits (rightsOf f) C → executeCommand bounded (fileState f) (some (meaning C)) (actuals x) ≡ done m' new → Proper (rightsOf f) m'
+      by : (C : Command) → Fits (rightsOf f) C → executeCommand bounded (fileSystem f) (fileState f) (some (meaning C)) (actuals x) ≡ done m' new → Proper (rightsOf f) m'
       by C G =
           gates-elim (λ o. o ≡ done m' new → Proper (rightsOf f) m')
           (all (actualFits bounded (meaning C) (actuals x)) parameters 0)
-          (holdAll (fileState f) (actuals x) (meaning C .conditions)) (canDoAll (fileState f) (actuals x) (meaning C .operations))
+          (holdAll (fileSystem f) (fileState f) (actuals x) (meaning C .conditions)) (canDoAll (fileState f) (actuals x) (meaning C .operations))
           (done (effectAll (fileState f) (actuals x) (meaning C .operations)) (entersAnyNew (fileState f) (actuals x) (meaning C .operations)))
           (λ n d. absurd (let z : _≡_ {A = ℕ} 0 1 = cc in omega arith))
           (λ fit _ can d.
@@ -141,13 +141,13 @@ module _ (f : List ℕ) (x : Call) where
         go (done m' new) e = d m' new e
 
   no-zero : (n : ℕ) → fileOutcome f x ≡ refused n → n ≡ 0 → ⊥
-  no-zero n e q = let l : 11 ≤ n = refused-number bounded (fileState f) (getElem? (fileSystem f .commands) (x .command)) (actuals x) n e in omega arith
+  no-zero n e q = let l : 11 ≤ n = refused-number bounded (fileSystem f) (fileState f) (getElem? (fileSystem f .commands) (x .command)) (actuals x) n e in omega arith
 
   abbrev Executed : Type 0
-  Executed = (C : ModelCommand) × Admitted bounded (fileSystem f) x C × Executes C (actuals x) (configuration (fileState f)) (configuration (fileState (runFile f x)))
+  Executed = (C : ModelCommand) × Admitted bounded (fileSystem f) x C × ExecutesUnder (fileSystem f) C (actuals x) (configuration (fileState f)) (configuration (fileState (runFile f x)))
 
   abbrev NotExecuted : Type 0
-  NotExecuted = (C : ModelCommand) (E : Configuration) → Admitted bounded (fileSystem f) x C → Executes C (actuals x) (configuration (fileState f)) E → ⊥
+  NotExecuted = (C : ModelCommand) (E : Configuration) → Admitted bounded (fileSystem f) x C → ExecutesUnder (fileSystem f) C (actuals x) (configuration (fileState f)) E → ⊥
 
   bad : (refusal f ≡ 0 → ⊥) → (runCode f x ≡ refusal f) × (runFile f x ≡ f)
   unfolding runCode runFile
@@ -157,7 +157,7 @@ module _ (f : List ℕ) (x : Call) where
   executed z e =
       by-cases z (λ o. codeOf o ≡ 0 → Executed) (λ n w q. absurd (no-zero n w q))
       (λ m' new w _. let d = M z .done-executes m' new w in
-      (d .0, d .1, subst (λ (s : State). Executes (d .0) (actuals x) (configuration (fileState f)) (configuration s)) (sym (state-done z m' new w)) (d .2)))
+      (d .0, d .1, subst (λ (s : State). ExecutesUnder (fileSystem f) (d .0) (actuals x) (configuration (fileState f)) (configuration s)) (sym (state-done z m' new w)) (d .2)))
       (sym (code-is z) ∙ e)
 
   why : refusal f ≡ 0 → (runCode f x ≡ 0 → ⊥) → (runFile f x ≡ f) × NotExecuted

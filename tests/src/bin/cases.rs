@@ -1,7 +1,8 @@
 //! Runs the reference implementation on document 01's cases P1 to P10 and on
 //! its settled readings, and its parts against each other. Needs no library.
 
-use reference::brute::{self, Found, Instance, Move, State};
+use reference::brute::{self, Carrying, Found, Instance, Move, State};
+use reference::carrying::carriers;
 use reference::desk::desk;
 use reference::file::{self, Contents};
 use reference::filled::Course;
@@ -16,7 +17,7 @@ use reference::rounds::most_steps;
 use reference::sheet::{sheet, ENTRY};
 use reference::trusted::office;
 use reference::verdict::{needed, Question};
-use reference::{lists, second, stored, table};
+use reference::{carried, lists, second, stored, table};
 
 /// A draft with these kinds and these rights in cells.
 fn draft(rights: u8, kinds: &[(usize, u8)], cells: &[(usize, usize, u8)]) -> Draft {
@@ -201,6 +202,83 @@ fn main() {
         for (draft, wanted) in cases {
             let contents = file::read(&draft.file()).unwrap();
             same(group, brute::search(&contents, 0, 2, 100_000).found, wanted);
+        }
+    });
+
+    report.group("rights that carry: verdicts by hand", 100, |group| {
+        for case in carried::verdicts() {
+            let file = case.draft.file();
+            let length = needed(&file);
+            let mut wanted = case.steps.concat();
+            let answer = (case.code, case.steps.len() as u64);
+            wanted.resize(length, 170);
+            let (code, steps, buffer) = judged(&case.draft, case.right, length);
+            let good = (code, steps) == answer && buffer == wanted;
+            group.input(good, || {
+                format!("{}: {code} with {steps}, {}", case.what, hex(&buffer))
+            });
+            let mut buffer = vec![170; length];
+            let other = second::judge(&file, case.right, &mut buffer);
+            let good = other == answer && buffer == wanted;
+            group.input(good, || format!("{}: second {other:?}", case.what));
+            if case.draft.rights as usize <= brute::RIGHTS {
+                let contents = file::read(&file).unwrap();
+                let found = brute::search(&contents, case.right, 2, 100_000).found;
+                let wanted = match case.code {
+                    UNSAFE => Found::Leak,
+                    _ => Found::NoLeak,
+                };
+                group.input(found == wanted, || format!("{}: {found:?}", case.what));
+            }
+        }
+    });
+
+    report.group("rights that carry: runs by hand", 24, |group| {
+        for case in carried::played() {
+            let file = case.draft.file();
+            let trace = case.trace.concat();
+            let answers = [replay, second::replay].map(|play| play(&file, &trace, case.right));
+            group.input(answers == [case.answer; 2], || {
+                format!("{}: {answers:?}", case.what)
+            });
+            for run in [run_file, second::run] {
+                let mut given = file.clone();
+                for &[rule, actuals @ ..] in &case.trace {
+                    run(&mut given, rule, actuals);
+                }
+                group.input(given == case.file_after(), || {
+                    format!("{}: left {}", case.what, hex(&given))
+                });
+            }
+        }
+    });
+
+    report.group("rights that carry: 44 comes first", 300, |group| {
+        for file in carried::wrong() {
+            for (trace, right) in [(&[][..], 0), (&[0, 0, 255, 255, 255], 0), (&[1; 3], 9)] {
+                let answers = [replay, second::replay].map(|play| play(&file, trace, right));
+                group.input(answers == [(44, 0); 2], || {
+                    format!("{answers:?}, {}", hex(&file))
+                });
+            }
+            let mut after = file.clone();
+            let answers = [run_file, second::run].map(|run| run(&mut after, 0, [0, 255, 255, 255]));
+            group.input(answers == [44; 2] && after == file, || {
+                format!("{answers:?}, {}", hex(&file))
+            });
+        }
+    });
+
+    report.group("closures: chains of links", 4_000, |group| {
+        // Every relation of three rights, and many of more.
+        let mut relations: Vec<Vec<u8>> = (0..512u16)
+            .map(|bits| (0..3).map(|i| (bits >> (3 * i) & 7) as u8).collect())
+            .collect();
+        while relations.len() < 4_000 {
+            relations.push(any(random).carries);
+        }
+        for carries in relations {
+            group.input(closures_agree(&carries), || format!("{carries:?}"));
         }
     });
 
@@ -455,9 +533,9 @@ fn main() {
         },
     );
 
-    report.group("reference and second sheet agree", 600, |group| {
+    report.group("reference and second sheet agree", 700, |group| {
         let mut seen = [0; 4];
-        while group.inputs < 600 {
+        while group.inputs < 700 {
             let file = small(random).file();
             let rights = file[0];
             // Up to 10 entries, and bytes that make none.
@@ -493,6 +571,26 @@ fn main() {
     });
 
     report.finish();
+}
+
+/// Whether the reference's sets of carriers are those that the definition says: a
+/// chain of links of any length, here of at most as many as there are rights.
+fn closures_agree(carries: &[u8]) -> bool {
+    let rights = carries.len();
+    let links = |i: usize, j: usize| carries[i] >> j & 1 == 1;
+    let mut chained: Vec<Vec<bool>> = (0..rights)
+        .map(|i| (0..rights).map(|q| i == q).collect())
+        .collect();
+    for _ in 0..rights {
+        let shorter = chained.clone();
+        for (i, row) in chained.iter_mut().enumerate() {
+            for (q, chain) in row.iter_mut().enumerate() {
+                *chain |= (0..rights).any(|j| links(i, j) && shorter[j][q]);
+            }
+        }
+    }
+    let carriers = carriers(carries);
+    (0..rights).all(|i| (0..rights).all(|q| (carriers[q] >> i & 1 == 1) == chained[i][q]))
 }
 
 /// A walk on both machines at once; gives the number of runs carried out.
@@ -531,6 +629,7 @@ fn agree_with_brute(group: &mut Group, random: &mut Random, contents: &Contents)
     let mut pool = matrix.names();
     pool.extend((0..32).filter(|&name| !matrix.exists(name)).take(3));
     let mut state = State::start(&matrix, &pool);
+    let carrying = Carrying::of(contents);
     for _ in 0..50 {
         let number = random.below(contents.rules.len());
         let rule = &contents.rules[number];
@@ -544,7 +643,7 @@ fn agree_with_brute(group: &mut Group, random: &mut Random, contents: &Contents)
             actuals[blank] = u64::from(job_number(random));
         }
         let one = run(&matrix, &contents.rules, number as u64, actuals);
-        let other = Instance::new(rule, &positions).run(&state);
+        let other = Instance::new(rule, &positions).run(&state, &carrying.met(&state));
         let good = match (one, other) {
             (Err(_), Move::Refused) => true,
             (Ok(done), Move::To(after)) => {

@@ -201,7 +201,7 @@ fn main() {
             let there = stored.iter().any(|case| case.name == count);
             group.demand(there, || format!("no case {count}"));
         }
-        let refusals = [1, 2, 3, 4, 5, 6, 7, 8, 9, 21, 22, 23];
+        let refusals = [1, 2, 3, 4, 5, 6, 7, 8, 9, 21, 22, 23, 44];
         let lines = refusals
             .iter()
             .map(|refusal| format!("REFUSED {refusal}\n"));

@@ -69,12 +69,13 @@ fn format_page(group: &mut Group) {
     let mut draft = Draft::empty(2);
     draft.kinds[..3].copy_from_slice(&[2, 2, 1]);
     draft.put(0, 2, 0);
-    draft.rules.push(rule(3, &[[0, 0, 2]], &[[ENTER, 1, 1, 2]]));
+    draft.carry(0, 1);
+    draft.rules.push(rule(3, &[[1, 0, 2]], &[[ENTER, 1, 1, 2]]));
     group.input(file == draft.file(), || {
         format!("the bytes: {}", hex(&file))
     });
     group.input(
-        file.len() == 1_080 && page.contains("file of 1,080 bytes"),
+        file.len() == 1_086 && page.contains("file of 1,086 bytes"),
         || "its length".to_string(),
     );
     group.input(check::check(&file) == 0, || "not accepted".to_string());
@@ -84,8 +85,8 @@ fn format_page(group: &mut Group) {
     let changed: Vec<usize> = (0..file.len())
         .filter(|&at| file[at] != after[at])
         .collect();
-    let good = code == 0 && changed == [80] && after[80] == 2;
-    let said = page.contains("byte 80, which is cell (1, 2) at 46 + 32 × 1 + 2, becomes `02`");
+    let good = code == 0 && changed == [84] && after[84] == 2;
+    let said = page.contains("byte 84, which is cell (1, 2) at 50 + 32 × 1 + 2, becomes `02`");
     group.input(good && said, || format!("the run: {code}, {changed:?}"));
     let mut buffer = [0; 170];
     let unsafe_ = judge::judge(&file, 1, &mut buffer);
@@ -97,16 +98,23 @@ fn format_page(group: &mut Group) {
     });
     let safe = judge::judge(&file, 0, &mut buffer).0;
     group.input(safe == 0, || format!("right 0: {safe}"));
+    let mut bare = file.clone();
+    bare[1_074] = 0;
+    let safe = judge::judge(&bare, 1, &mut buffer).0;
+    let said = page.contains("With `00 00` at 1,074 right 1 is safe too");
+    group.input(safe == 0 && said, || {
+        format!("right 1, nothing carried: {safe}")
+    });
     let lengths = (Draft::empty(1).file().len(), longest_length());
-    let said = page.contains("an accepted one has 1,066 to 2,442");
-    group.input(lengths == (1_066, 2_442) && said, || {
+    let said = page.contains("an accepted one has 1,071 to 2,454");
+    group.input(lengths == (1_071, 2_454) && said, || {
         format!("lengths {lengths:?}")
     });
 }
 
 /// The longest accepted file.
 fn longest_length() -> usize {
-    let mut draft = Draft::empty(1);
+    let mut draft = Draft::empty(8);
     draft.kinds[0] = 2;
     for _ in 0..32 {
         draft
@@ -136,7 +144,7 @@ fn refusals_page(group: &mut Group) {
     let wanted: Vec<String> = (1..=9)
         .chain(11..=15)
         .chain(21..=24)
-        .chain([31, 41, 42, 43])
+        .chain([31, 41, 42, 43, 44])
         .map(|number: u8| number.to_string())
         .collect();
     group.demand(numbers == wanted, || format!("the numbers are {numbers:?}"));
@@ -429,8 +437,8 @@ fn main() {
     let arguments = Arguments::read("docs");
     let mut random = Random::new(arguments.seed);
     let mut report = Report::default();
-    report.group("docs/FORMAT.md: the worked example", 7, format_page);
-    report.group("docs/REFUSALS.md: the program's words", 22, refusals_page);
+    report.group("docs/FORMAT.md: the worked example", 8, format_page);
+    report.group("docs/REFUSALS.md: the program's words", 23, refusals_page);
     report.group("include/tugcaphi.h and its example", 3, header);
     report.group("include/tugcaphi.h: the buffer", 8, buffer_length);
     report.group("include/tugcaphi.h: the list of cells", 4, list_length);

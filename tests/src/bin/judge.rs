@@ -7,9 +7,10 @@ mod boundary_judge;
 mod boundary_replay;
 
 use reference::brute::{exhausted, Found, Search};
+use reference::carried;
 use reference::file::{self, Contents};
 use reference::generate::*;
-use reference::judge::{Account, SAFE, UNSAFE};
+use reference::judge::{judge, Account, SAFE, UNSAFE};
 use reference::obstacles::{obstruct, wrong_file};
 use reference::random::Random;
 use reference::report::{hex, Arguments, Counts, Group, Report};
@@ -54,6 +55,45 @@ impl Spares {
         for (sort, (used, fewest)) in used.into_iter().zip(fewest).enumerate() {
             group.demand(used >= fewest, || {
                 format!("only {used} tables of sort {sort} have spare blanks in their steps")
+            });
+        }
+    }
+}
+
+/// Tables with carries, and what comes of these.
+#[derive(Default)]
+struct Carryings {
+    with: u64,
+    /// The verdict or the steps are others without the carries.
+    other: u64,
+    /// Unsafe by carrying alone: in a round, by the closing search.
+    only: [u64; 2],
+}
+
+impl Carryings {
+    fn add(&mut self, draft: &Draft, right: u8, account: &Account) {
+        if draft.carries.iter().all(|carried| *carried == 0) {
+            return;
+        }
+        let plain = draft.carrying_nothing().file();
+        let without = judge(&plain, right, &mut vec![0; needed(&plain)]);
+        self.with += 1;
+        self.other += u64::from(*account != without);
+        if account.code == UNSAFE && without.code == SAFE {
+            self.only[usize::from(account.closing)] += 1;
+        }
+    }
+
+    /// So many tables with carries, of each sort.
+    fn demand(&self, group: &mut Group, fewest: [u64; 4]) {
+        let Carryings { with, other, only } = self;
+        println!(
+            "  with carries {with}, others without them {other}, unsafe by them alone {only:?}"
+        );
+        let counts = [*with, *other, only[0], only[1]];
+        for (sort, (count, fewest)) in counts.into_iter().zip(fewest).enumerate() {
+            group.demand(count >= fewest, || {
+                format!("only {count} tables with carries of sort {sort}")
             });
         }
     }
@@ -126,12 +166,35 @@ fn main() {
         try_case(&objects, 0, 200, 23, &[]);
     });
 
+    report.group("rights that carry: verdicts by hand", 50, |group| {
+        for case in carried::verdicts() {
+            let file = case.draft.file();
+            let question = Question::new(&file, case.right);
+            let length = needed(&file);
+            compare(group, library, random, question, length);
+            let mut buffer = vec![170; length];
+            let answer = (library.judge)(question, &mut buffer);
+            let mut wanted = case.steps.concat();
+            wanted.resize(length, 170);
+            let good = answer == (case.code, case.steps.len() as u64) && buffer == wanted;
+            group.demand(good, || {
+                let end = 5 * answer.1.min(20) as usize;
+                format!(
+                    "{}: {answer:?}, {}",
+                    case.what,
+                    hex(&buffer[..end.min(length)])
+                )
+            });
+        }
+    });
+
     report.group("brute search on tiny tables", 24_000, |group| {
         let (mut safe, mut by_rounds, mut by_closing) = (0, 0, 0);
         let (mut dull, mut unknown, mut pools) = (0, 0, [0; 2]);
         let (mut all_states, mut most) = (0, 0);
         let (mut destroyed, mut recreated, mut with_refused) = (0, 0, 0);
         let mut spares = Spares::default();
+        let mut carryings = Carryings::default();
         while group.inputs < 24_000 {
             let draft = small(random);
             let file = draft.file();
@@ -170,11 +233,13 @@ fn main() {
             }
             counts.add(account.code);
             spares.add(&contents, &account);
+            carryings.add(&draft, right, &account);
         }
         println!(
             "  safe {safe}, unsafe in a round {by_rounds}, unsafe by the closing search {by_closing}"
         );
         spares.demand(group, [2_000, 1_000, 500]);
+        carryings.demand(group, [8_000, 700, 250, 120]);
         println!(
             "  three further names {}, two {}; {all_states} states, at most {most}; not exhausted {unknown}, left out {dull}",
             pools[1], pools[0]
@@ -195,6 +260,7 @@ fn main() {
         let (mut safe, mut by_rounds, mut by_closing) = (0, 0, 0);
         let (mut long, mut steps, mut rounds) = (0, 0, 0);
         let mut spares = Spares::default();
+        let mut carryings = Carryings::default();
         while group.inputs < 1_000 {
             let (draft, right) = large(random);
             let file = draft.file();
@@ -207,6 +273,7 @@ fn main() {
             }
             counts.add(account.code);
             spares.add(&file::read(&file).unwrap(), &account);
+            carryings.add(&draft, right, &account);
             long += u64::from(account.steps >= 10);
             steps = account.steps.max(steps);
             rounds = account.rounds.max(rounds);
@@ -215,6 +282,7 @@ fn main() {
             "  safe {safe}, unsafe in a round {by_rounds}, unsafe by the closing search {by_closing}; {long} with 10 steps or more, at most {steps} steps, {rounds} rounds"
         );
         spares.demand(group, [200, 50, 20]);
+        carryings.demand(group, [300, 80, 10, 2]);
         group.demand(safe >= 200, || format!("only {safe} safe"));
         group.demand(by_rounds >= 50, || format!("only {by_rounds} unsafe in a round"));
         group.demand(by_closing >= 50, || format!("only {by_closing} by the closing search"));
@@ -307,8 +375,8 @@ fn main() {
         }
     });
 
-    report.group("each answer was seen", 15, |group| {
-        let answers = [SAFE, 1, 2, 3, 4, 5, 6, 7, 8, 9, 21, 22, 23, 24, UNSAFE];
+    report.group("each answer was seen", 16, |group| {
+        let answers = [SAFE, 1, 2, 3, 4, 5, 6, 7, 8, 9, 21, 22, 23, 24, 44, UNSAFE];
         counts.demand(group, &answers, 100);
     });
     counts.print("answers (0 is safe, 255 is unsafe)");

@@ -51,6 +51,84 @@ fn with_rules(random: &mut Random, least: usize) -> Draft {
     }
 }
 
+/// The carries (request C-19): every byte of them with every g, their length on
+/// both sides, and what comes before them and behind.
+fn carries(report: &mut Report, reader: &mut Reader) {
+    report.group("44: every set that every right carries", 9_000, |group| {
+        for rights in 1..=8 {
+            for right in 0..rights as usize {
+                for carried in 0..=255 {
+                    let mut draft = Draft::empty(rights);
+                    draft.carries[right] = carried;
+                    let within = u16::from(carried) < 1 << rights;
+                    reader.expect(group, &draft.file(), if within { 0 } else { 44 });
+                }
+            }
+        }
+    });
+    report.group("5: every length of the carries", 300, |group| {
+        for rights in 1..=8 {
+            for length in (0..=32).chain([255, 256, 256 + rights as usize, 2_000]) {
+                let mut draft = Draft::empty(rights);
+                draft.carries.resize(length, 0);
+                let known = if length == rights as usize { 0 } else { 5 };
+                reader.expect(group, &draft.file(), known);
+                // The length tells, and not what would stand there.
+                draft.carries.fill(255);
+                let known = match known {
+                    0 if rights < 8 => 44,
+                    known => known,
+                };
+                reader.expect(group, &draft.file(), known);
+            }
+        }
+    });
+    report.group("44 behind 7, before the rules; 5 before 6", 40, |group| {
+        for rights in 1..=7 {
+            let mut draft = Draft::empty(rights);
+            draft.carries[rights as usize - 1] = 1 << rights;
+            reader.expect(group, &draft.file(), 44);
+            // Before each refusal of a rule.
+            for section in [
+                vec![],
+                vec![0, 0, 1],
+                vec![1, 0, 1],
+                rule(1, &[], &[[7, 0, 0, 0]]),
+            ] {
+                let mut with_rule = draft.clone();
+                with_rule.rules.push(section);
+                reader.expect(group, &with_rule.file(), 44);
+            }
+            let mut with_cell = draft.clone();
+            with_cell.cells[1023] = 1;
+            reader.expect(group, &with_cell.file(), 7);
+            let mut with_kind = with_cell.clone();
+            with_kind.kinds[31] = 3;
+            reader.expect(group, &with_kind.file(), 6);
+            for length in [0, rights as usize - 1, rights as usize + 1] {
+                with_kind.carries.resize(length, 0);
+                reader.expect(group, &with_kind.file(), 5);
+            }
+        }
+    });
+    report.group("3: pairs 3 to 35", 36, |group| {
+        for rules in 0..=32 {
+            let mut draft = Draft::empty(1);
+            draft.rules = vec![rule(1, &[], &[[ENTER, 0, 0, 0]]); rules];
+            reader.expect(group, &draft.file(), 0);
+        }
+        let mut draft = Draft::empty(1);
+        draft.rules = vec![rule(1, &[], &[[ENTER, 0, 0, 0]]); 33];
+        reader.expect(group, &draft.file(), 3);
+        // Kinds and cells alone, in order and whole.
+        let mut file = vec![1, 2, 10, 0, 32, 0, 42, 0, 0, 4];
+        file.resize(10 + 32 + 1024, 0);
+        reader.expect(group, &file, 3);
+        file[1] = 3;
+        reader.expect(group, &file, 4);
+    });
+}
+
 fn main() {
     let arguments = Arguments::read("reader");
     let mut reader = Reader {
@@ -71,11 +149,11 @@ fn main() {
             reader.expect(group, &file, 0);
         }
         let file = longest(random).file();
-        group.demand(file.len() == 2442, || format!("{} bytes", file.len()));
+        group.demand(file.len() == 2454, || format!("{} bytes", file.len()));
         reader.expect(group, &file, 0);
         // The shortest: no rules.
         let file = Draft::empty(1).file();
-        group.demand(file.len() == 1066, || format!("{} bytes", file.len()));
+        group.demand(file.len() == 1071, || format!("{} bytes", file.len()));
         reader.expect(group, &file, 0);
     });
 
@@ -91,7 +169,7 @@ fn main() {
                 };
                 let mut file = draft.file();
                 let sections = file::kinds_offset(&file);
-                // Header, pairs and kinds, then all rules; the cells follow below.
+                // Header, pairs and kinds, then carries and all rules; the cells follow below.
                 let places = (0..sections + 32).chain(sections + 32 + 1024..file.len());
                 for place in places {
                     let kept = file[place];
@@ -169,7 +247,7 @@ fn main() {
         reader.expect(group, &[], 1);
         for byte in 0..=255 {
             reader.expect(group, &[byte], 1);
-            for second in [0, 1, 2, 3, 34, 35, 255] {
+            for second in [0, 1, 2, 3, 4, 34, 35, 36, 255] {
                 reader.compare(group, &[byte, second]);
             }
         }
@@ -181,13 +259,16 @@ fn main() {
                 let mut file = draft.file();
                 file.resize(length, 0);
                 reader.expect(group, &file, within(4));
-                // A section as long as the file needs: kinds, cells, a rule.
+                // A section as long as the file needs: kinds, cells, carries, a rule.
                 let missing = length - draft.file().len();
                 let mut padded = draft.clone();
                 padded.kinds.resize(32 + missing, 0);
                 reader.expect(group, &padded.file(), within(5));
                 let mut padded = draft.clone();
                 padded.cells.resize(1024 + missing, 0);
+                reader.expect(group, &padded.file(), within(5));
+                let mut padded = draft.clone();
+                padded.carries.resize(draft.rights as usize + missing, 0);
                 reader.expect(group, &padded.file(), within(5));
                 let number = random.below(draft.rules.len());
                 let mut padded = draft.clone();
@@ -201,7 +282,7 @@ fn main() {
                 let mut file = random.bytes(length);
                 reader.compare(group, &file);
                 file[0] = 4;
-                file[1] = 2;
+                file[1] = 3;
                 reader.compare(group, &file);
             }
         }
@@ -276,7 +357,7 @@ fn main() {
             let mut file = random.bytes(length);
             if round % 2 == 1 && length >= 2 {
                 file[0] = random.between(1, 8) as u8;
-                file[1] = random.between(2, 34) as u8;
+                file[1] = random.between(3, 35) as u8;
             }
             reader.compare(group, &file);
         }
@@ -285,6 +366,9 @@ fn main() {
             let mut draft = any(random);
             for kind in &mut draft.kinds {
                 *kind = random.below(4) as u8 * random.below(2) as u8;
+            }
+            for carried in &mut draft.carries {
+                *carried = random.byte() >> random.between(0, 9).min(7);
             }
             for section in &mut draft.rules {
                 let length = random.between(0, 40);
@@ -331,8 +415,9 @@ fn main() {
         reader.expect(group, &base(rule(2, &[[1, 1, 2]], &[[1, 0, 0, 0]])), 9);
     });
 
-    report.group("each answer was seen", 10, |group| {
-        let answers: Vec<u8> = (0..=9).collect();
+    carries(&mut report, &mut reader);
+    report.group("each answer was seen", 11, |group| {
+        let answers: Vec<u8> = (0..=9).chain([44]).collect();
         reader.counts.demand(group, &answers, 100);
     });
     reader.counts.print("answers");

@@ -5,6 +5,7 @@ mod boundary_replay;
 #[path = "../boundary/run.rs"]
 mod boundary_run;
 
+use reference::carried;
 use reference::damage::{plant, Fault};
 use reference::file::{self, Contents, Rule};
 use reference::generate::*;
@@ -404,6 +405,62 @@ fn main() {
         }
     });
 
+    report.group("rights that carry: runs by hand", 24, |group| {
+        for case in carried::played() {
+            let mut file = case.draft.file();
+            let trace = case.trace.concat();
+            let answer = library.compare_replay(group, &file, &trace, case.right);
+            for &[rule, actuals @ ..] in &case.trace {
+                library.compare_run(group, &mut file, rule, actuals);
+            }
+            group.demand(answer == case.answer && file == case.file_after(), || {
+                format!("{}: {answer:?}, left {}", case.what, hex(&file))
+            });
+        }
+    });
+
+    report.group("44 before all else, in replay with step 0", 300, |group| {
+        for mut file in carried::wrong() {
+            for (trace, right) in [(&[][..], 0), (&[0, 0, 255, 255, 255], 0), (&[1; 3], 9)] {
+                let answer = library.compare_replay(group, &file, trace, right);
+                group.demand(answer == (44, 0), || format!("{answer:?}"));
+            }
+            let answer = library.compare_run(group, &mut file, 0, [0, 255, 255, 255]);
+            group.demand(answer == 44, || format!("{answer:?}"));
+        }
+    });
+
+    report.group("runs that hang on what rights carry", 20_000, |group| {
+        let mut only = 0;
+        while group.inputs < 20_000 {
+            let draft = lively(random);
+            let mut file = draft.file();
+            let contents = file::read(&file).unwrap();
+            // The same with nothing carried, of which there may be a refusal more.
+            let mut plain = draft.carrying_nothing().file();
+            for _ in 0..10 {
+                let (rule, actuals) = likely_run(random, &contents.rules, &contents.matrix);
+                // Mostly such as are done by what the cells hold or carry.
+                let tested = !contents.rules[rule as usize].conditions.is_empty();
+                let done = || run_file(&mut file.clone(), rule, actuals) == 0;
+                if !(tested && done()) && !random.percent(5) {
+                    continue;
+                }
+                let answer = library.compare_run(group, &mut file, rule, actuals);
+                let without = library.compare_run(group, &mut plain, rule, actuals);
+                let good = without == answer || (without == 14 && answer != 14);
+                group.demand(good, || format!("{answer}, without carries {without}"));
+                only += u64::from(answer == 0 && without == 14);
+                write_matrix(&mut file, &contents.matrix);
+                write_matrix(&mut plain, &contents.matrix);
+            }
+        }
+        println!("  done by carrying alone: {only}");
+        group.demand(only >= 500, || {
+            format!("only {only} done by carrying alone")
+        });
+    });
+
     report.group("replays of long traces", 30_000, |group| {
         let mut long = 0;
         while group.inputs < 30_000 {
@@ -564,12 +621,14 @@ fn main() {
         }
     });
 
-    report.group("each answer of a run was seen", 14, |group| {
-        let answers = [0, 1, 2, 3, 4, 5, 6, 7, 8, 9, 11, 12, 14, 15];
+    report.group("each answer of a run was seen", 15, |group| {
+        let answers = [0, 1, 2, 3, 4, 5, 6, 7, 8, 9, 11, 12, 14, 15, 44];
         library.runs.demand(group, &answers, 100);
     });
-    report.group("each answer of a replay was seen", 17, |group| {
-        let answers = [0, 1, 2, 3, 4, 5, 6, 7, 8, 9, 11, 12, 14, 15, 21, 31, LEAK];
+    report.group("each answer of a replay was seen", 18, |group| {
+        let answers = [
+            0, 1, 2, 3, 4, 5, 6, 7, 8, 9, 11, 12, 14, 15, 21, 31, 44, LEAK,
+        ];
         library.replays.demand(group, &answers, 100);
     });
     report.group(

@@ -1,4 +1,4 @@
-use Rattle.closing.proofs.ClosingCalls.{Looking, looking-start, looking-right, looking-end, looking-number, looking-tried, looking-found, looking-less, looking-more}
+use Rattle.closing.proofs.ClosingCalls.{Looking, looking-start, looking-seen, looking-right, looking-end, looking-number, looking-tried, looking-found, looking-less, looking-more}
 use Rattle.matrix.specs.Matrices.{matrixOf}
 use Rattle.queries.specs.Sought.{tablesOf}
 use Prim.Native.Nat.{_-_}
@@ -39,7 +39,7 @@ element-copy-out-c c = search needs
 
 -- src/lib.rt:154:13
 call-of-requires : tie.Need-call-of-requires Inv-loop μ-loop
-call-of-requires c κs = (search looking-tried, search looking-number, search needs, search looking-right, search needs, search needs)
+call-of-requires c κs = (search looking-tried, search looking-number, search looking-seen, search looking-right, search needs, search needs)
 
 -- src/lib.rt:156:13
 returns : tie.Need-returns Inv-loop μ-loop

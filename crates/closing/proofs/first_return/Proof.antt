@@ -5,25 +5,21 @@ use Rattle.closing.proofs.first_return.Tie as tie
 use Rattle.closing.proofs.first_return.Reads as reads
 use Rattle.closing.proofs.first_return.Lts as lts
 use Rattle.closing.proofs.first_call.Reads as first-call-reads
-use Rattle.masks.proofs.deleted.Reads as deleted-reads
+use Rattle.closing.proofs.masks_without.Reads as masks-without-reads
 use Rattle.matrix.proofs.Matrix.without_right.Reads as without-right-reads
 
--- src/lib.rt:183:16
 without-right-requires : tie.Need-without-right-requires
 without-right-requires c κs = search needs
 
--- src/lib.rt:188:19
-deleted-requires : tie.Need-deleted-requires
-deleted-requires c κs = search needs
+masks-without-requires : tie.Need-masks-without-requires
+masks-without-requires c κs = search needs
 
--- src/lib.rt:189:5
 first-call-requires : tie.Need-first-call-requires
 first-call-requires c κs = (search closing-gone, search covers-gone)
 
--- src/lib.rt:164:1
 returns : tie.Need-returns
 returns c = search returned-gone
 
 pub first-return-spec : {M : Type 1} → statement M
 first-return-spec =
-    tie.close (tie.spec without-right-requires deleted-requires first-call-requires returns)
+    tie.close (tie.spec without-right-requires masks-without-requires first-call-requires returns)

@@ -1,5 +1,6 @@
 use Rattle.cases.proofs.Picks.{on-is, on-isnt}
 use Rattle.layout.specs.Refusals.{sizesRefusal}
+use Rattle.layout.proofs.Tests.{on-given, on-not-given}
 use borrow.Author.Needs.{needs}
 use Rattle.layout.proofs.sizes_refusal.Statement.{statement}
 use Rattle.layout.proofs.sizes_refusal.Tie as tie
@@ -21,10 +22,26 @@ returns-2 : tie.Need-returns-2
 unfolding sizesRefusal
 returns-2 c = search (on-is, on-isnt) depth 8
 
+word-at-requires-3 : tie.Need-word-at-requires-3
+word-at-requires-3 c κs = search needs
+
 returns-3 : tie.Need-returns-3
 unfolding sizesRefusal
-returns-3 c = search (on-is, on-isnt) depth 8
+returns-3 c = search (on-is, on-isnt, on-given, on-not-given) depth 8
+
+returns-4 : tie.Need-returns-4
+unfolding sizesRefusal
+returns-4 c = search (on-is, on-isnt, on-given, on-not-given) depth 8
 
 pub sizes-refusal-spec : {M : Type 1} → statement M
 sizes-refusal-spec =
-    tie.close (tie.spec word-at-requires returns word-at-requires-2 mul-if2 returns-2 returns-3)
+    tie.close
+    (tie.spec
+    word-at-requires
+    returns
+    word-at-requires-2
+    mul-if2
+    returns-2
+    word-at-requires-3
+    returns-3
+    returns-4)

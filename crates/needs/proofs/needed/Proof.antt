@@ -1,6 +1,6 @@
 use denote.Ref.{now}
 use Rattle.needs.proofs.Needing.{need-asked, rounds-held, rounds-never}
-use Rattle.questions.proofs.Starting.{copied-start}
+use Rattle.questions.proofs.Starting.{policy-told, copied-start}
 use borrow.Author.Needs.{needs}
 use Rattle.needs.proofs.needed.Statement.{statement}
 use Rattle.needs.proofs.needed.Tie as tie
@@ -12,7 +12,7 @@ held-requires : tie.Need-held-requires
 held-requires c κs = search needs
 
 all-rounds-requires : tie.Need-all-rounds-requires
-all-rounds-requires c κs = (need-asked _ (now (c .before .before .before .before .before .before .before .before .before .before .before .before .before .before .before .args .list)) _ _ (c .before .before .before .before .before .held .ensures) (c .before .before .before .before .before .before .before .before .before .before .before .before .before .before .before .pre .0), copied-start _ _ (c .before .before .before .before .before .before .before .before .build .ensures), c .before .before .before .before .before .before .before .before .before .before .before .before .before .before .before .pre .2)
+all-rounds-requires c κs = (need-asked _ (now (c .before .before .before .before .before .before .before .before .before .before .before .before .before .before .before .before .before .args .list)) _ _ (c .before .before .before .before .before .held .ensures) (c .before .before .before .before .before .before .before .before .before .before .before .before .before .before .before .before .before .pre .0), copied-start _ _ (policy-told _ _ _ (c .before .before .before .before .before .before .before .before .before .before .before .before .before .before .before .before .before .pre .0 .fits) (c .before .before .before .before .before .before .before .before .build .ensures)), c .before .before .before .before .before .before .before .before .before .before .before .before .before .before .before .before .before .pre .2)
 
 same-length : tie.Need-same-length
 same-length c = search needs

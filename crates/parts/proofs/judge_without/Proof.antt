@@ -1,4 +1,4 @@
-use Rattle.parts.proofs.Judging.{without-fits, without-asked, without-below, without-concluded}
+use Rattle.parts.proofs.Judging.{without-fits, without-asked, without-told, without-below, without-concluded}
 use borrow.Author.Needs.{needs}
 use Rattle.parts.proofs.judge_without.Statement.{statement}
 use Rattle.parts.proofs.judge_without.Tie as tie
@@ -23,7 +23,7 @@ build-requires c κs = search needs
 
 -- src/lib.rt:120:5
 judge-requires : tie.Need-judge-requires
-judge-requires c κs = (search without-asked, search without-below, search needs, search needs)
+judge-requires c κs = (search without-asked, search without-below, search needs, search without-told)
 
 -- src/lib.rt:112:1
 same-length : tie.Need-same-length

@@ -31,8 +31,8 @@ pub fn run(report: &mut Report, seed: u64) {
             });
         }
     });
-    report.group("what the proved reader refuses is not made", 3, |group| {
-        let mut tables = [(); 3].map(|_| a_table(random).0);
+    report.group("what the proved reader refuses is not made", 4, |group| {
+        let mut tables = [(); 4].map(|_| a_table(random).0);
         tables[0].house.rights = 9;
         tables[1].house.matrix.kinds = [Kind::Absent; 32];
         tables[1].house.matrix.cell_mut(0, 0).insert(0);
@@ -41,7 +41,12 @@ pub fn run(report: &mut Report, seed: u64) {
             conditions: Vec::new(),
             steps: Vec::new(),
         }];
-        for (table, wanted) in tables.iter().zip([2, 7, 8]) {
+        while tables[3].house.rights == 8 {
+            tables[3] = a_table(random).0;
+        }
+        let beyond = tables[3].house.rights;
+        tables[3].house.carries.said_mut(0).insert(beyond);
+        for (table, wanted) in tables.iter().zip([2, 7, 8, 44]) {
             let answer = made(table, OsStr::new("a.table")).map(|(_, refusal)| refusal);
             group.input(matches!(answer, Ok(n) if n == wanted), || {
                 format!("{wanted}: {answer:?}")
@@ -87,7 +92,7 @@ fn a_table(random: &mut Random) -> (Table, Vec<u8>) {
 fn swap(random: &mut Random, table: &mut Table) -> bool {
     let before = table.house.clone();
     let house = &mut table.house;
-    match random.below(4) {
+    match random.below(5) {
         0 => {
             let (one, other) = (random.below(32), random.below(32));
             house.matrix.kinds.swap(one, other);
@@ -101,7 +106,15 @@ fn swap(random: &mut Random, table: &mut Table) -> bool {
                 false => cell.insert(right),
             }
         }
-        2 if house.rules.len() > 1 => {
+        2 => {
+            let (right, one) = (random.below(house.rights), random.below(house.rights));
+            let set = house.carries.said_mut(right);
+            match set.has(one) {
+                true => set.remove(one),
+                false => set.insert(one),
+            }
+        }
+        3 if house.rules.len() > 1 => {
             let last = house.rules.len() - 1;
             house.rules.swap(0, last);
         }

@@ -26,8 +26,8 @@ const STATUSES: [(&str, &[i32]); 8] = [
 
 /// The judge's buffer is always long enough, and a sheet never too long: no 24
 /// and no 43.
-const REFUSALS: [u8; 19] = [
-    1, 2, 3, 4, 5, 6, 7, 8, 9, 11, 12, 14, 15, 21, 22, 23, 31, 41, 42,
+const REFUSALS: [u8; 20] = [
+    1, 2, 3, 4, 5, 6, 7, 8, 9, 11, 12, 14, 15, 21, 22, 23, 31, 41, 42, 44,
 ];
 
 pub fn run(report: &mut Report, shown: &Shown) {
@@ -41,10 +41,10 @@ pub fn run(report: &mut Report, shown: &Shown) {
             group.input(err.lines().any(hint), || format!("{:?}: {err}", told.words));
         }
     });
-    report.group("every mistake of the table reader", 37, |group| {
+    report.group("every mistake of the table reader", 38, |group| {
         mistakes(group, shown)
     });
-    report.group("every refusal that the program can meet", 19, |group| {
+    report.group("every refusal that the program can meet", 20, |group| {
         refusals(group, shown)
     });
     let answers = answers(shown);

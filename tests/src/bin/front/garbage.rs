@@ -15,7 +15,7 @@ use tugcaphi::table::mistake::Code;
 use tugcaphi::table::{self, writer};
 use tugcaphi::terminal::Style;
 
-const PIECES: [&str; 34] = [
+const PIECES: [&str; 36] = [
     " ",
     "\n",
     "\r",
@@ -50,6 +50,8 @@ const PIECES: [&str; 34] = [
     "enter",
     "table 1\n",
     "cell (",
+    "carries ",
+    "\ncarries Ada: ",
 ];
 
 pub fn run(report: &mut Report, seed: u64) {

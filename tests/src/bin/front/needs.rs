@@ -1,6 +1,6 @@
 //! What a press needs, in words: the steps read back are the reference's, each
 //! does what is said of it, and the grid read back is the matrix that they lead
-//! to; under never the cells told are those that are never held alone.
+//! to, with what rights carry below it; under never the cells told are those that are never held alone.
 
 use super::reading::{Line, Reading};
 use super::stories::{single, words_of};
@@ -114,7 +114,12 @@ impl Asked {
             format!("other cells: {cells:?}")
         })?;
         let after = file::read(&told.file).expect("an accepted file").matrix;
-        self.grid(&lines[steps + 2..], &after)
+        let rest = &lines[steps + 2..];
+        let end = rest.iter().position(|line| line.is_empty());
+        let (grid, legend) = rest.split_at(end.unwrap_or(rest.len()));
+        self.grid(grid, &after)?;
+        let legend = legend.iter().skip(1).map(|line| line.trim_start());
+        self.reading.legend(legend, &self.contents.carries)
     }
 
     /// `own in (Ada, vermilion), read in (Ben, vermilion) and ..`.

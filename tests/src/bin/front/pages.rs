@@ -1,6 +1,7 @@
 //! Pictures and pages: well-formed, everything inside, every step in words, and
 //! nothing from anywhere else.
 
+use super::reading::Reading;
 use super::stories::{contents, single};
 use super::wording::Wording;
 use super::xml::{parse, Element, Node};
@@ -67,6 +68,7 @@ const SPARE: &str =
     "table 1\nrights own print\nsubjects press0..press14\ncell (press9, press9): own\n\
     rule order (job, a): if own in (a, a) enter print into (a, a)\n";
 const LEFT_OUT: &str = "it is left out of the steps";
+const CARRYING: &str = "every right in the cell that carries it";
 
 /// The example tables, random ones, and such with long words.
 fn cases(seed: u64) -> Vec<(Content, Vec<Verdict>)> {
@@ -149,7 +151,24 @@ pub fn picture_held(svg: &str, content: &Content, verdicts: &[Verdict]) -> Resul
             }
         }
     }
+    let quiet = root.named("text").into_iter();
+    let quiet = quiet.filter(|text| text.attribute("class") == Some("quiet"));
+    legend_held(quiet, content)?;
     local(&root)
+}
+
+/// What rights carry is told once, and all of it.
+fn legend_held<'a>(
+    texts: impl Iterator<Item = &'a Element>,
+    content: &Content,
+) -> Result<(), String> {
+    let reading = Reading::new(&content.words);
+    let texts: Vec<String> = texts.map(|text| text.text()).collect();
+    let told = texts.iter().map(String::as_str);
+    let told = told.filter(|text| reading.tells_carrying(text));
+    let sets = content.house.carries.sets().iter();
+    let carries: Vec<u8> = sets.map(|set| set.0 as u8).collect();
+    reading.legend(told, &carries)
 }
 
 /// A step of the judge's in words.
@@ -218,6 +237,11 @@ pub fn page_held(
         pictures += usize::from(matches!(verdict.ruling, Ruling::Unsafe(_)));
     }
     grids::held(&root, shown)?;
+    legend_held(root.named("p").into_iter(), content)?;
+    is(
+        page.contains(CARRYING) == content.house.carries.any(),
+        || "how carrying is to be read".into(),
+    )?;
     is(root.named("svg").len() == pictures, || {
         "a picture for each unsafe right".into()
     })?;
@@ -240,7 +264,7 @@ fn verdict_held(root: &Element, content: &Content, verdict: &Verdict) -> Result<
     let told: Vec<String> = root.named("li").iter().map(|item| item.text()).collect();
     for done in steps {
         let call = called(content, done.step);
-        let line = format!("{call} {}", story::sentence(words, &done.acts));
+        let line = format!("{call} {}", story::sentence(words, done));
         is(told.contains(&line), || format!("no step {line}"))?;
     }
     Ok(())

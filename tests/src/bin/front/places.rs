@@ -1,12 +1,16 @@
-//! The places of refusals 1 to 9: the walk beside the proved reader comes to the
+//! The places of refusals 1 to 9 and 44: the walk beside the proved reader comes to the
 //! same number on every file, and to the byte that was broken.
 
 use reference::damage::{plant, Fault};
+use reference::file::FIXED_PAIRS;
 use reference::generate::{any, lively, small, Draft};
 use reference::random::Random;
 use reference::report::{hex, Counts, Group, Report};
 use tugcaphi::house::place::{of_refusal, walk, Place};
 use tugcaphi::library::check;
+
+/// The refusals of whoever wrote a file.
+const FILES: [u8; 10] = [1, 2, 3, 4, 5, 6, 7, 8, 9, 44];
 
 pub fn run(report: &mut Report, seed: u64) {
     let mut random = Random::new(seed ^ 0x91ACE);
@@ -14,8 +18,8 @@ pub fn run(report: &mut Report, seed: u64) {
     report.group("the walk agrees with the proved reader", 30_000, |group| {
         agreement(group, random)
     });
-    report.group("the place is the byte that was broken", 9_000, |group| {
-        for refusal in (1..=9).cycle().take(9_000) {
+    report.group("the place is the byte that was broken", 10_000, |group| {
+        for refusal in FILES.into_iter().cycle().take(10_000) {
             let draft = with_rules(random);
             let (file, at) = broken(random, &draft, refusal);
             let place = of_refusal(&file, refusal);
@@ -27,17 +31,21 @@ pub fn run(report: &mut Report, seed: u64) {
             group.demand(told, || format!("{refusal}: what stands there is not told"));
         }
     });
-    report.group("no place where the walk finds another number", 9, |group| {
-        for refusal in 1..=9 {
-            let draft = with_rules(random);
-            let (file, _) = broken(random, &draft, refusal);
-            let mut others = (0..=255).filter(|&other| other != refusal);
-            let none = others.all(|other| of_refusal(&file, other).is_none());
-            group.input(none, || {
-                format!("a place of {refusal} told for another number")
-            });
-        }
-    });
+    report.group(
+        "no place where the walk finds another number",
+        10,
+        |group| {
+            for refusal in FILES {
+                let draft = with_rules(random);
+                let (file, _) = broken(random, &draft, refusal);
+                let mut others = (0..=255).filter(|&other| other != refusal);
+                let none = others.all(|other| of_refusal(&file, other).is_none());
+                group.input(none, || {
+                    format!("a place of {refusal} told for another number")
+                });
+            }
+        },
+    );
 }
 
 fn agreement(group: &mut Group, random: &mut Random) {
@@ -52,7 +60,7 @@ fn agreement(group: &mut Group, random: &mut Random) {
         });
     }
     counts.print("  refusals");
-    counts.demand(group, &[0, 1, 2, 3, 4, 5, 6, 7, 8, 9], 100);
+    counts.demand(group, &[&[0][..], &FILES].concat(), 100);
 }
 
 fn a_draft(random: &mut Random) -> Draft {
@@ -106,7 +114,7 @@ fn a_file(random: &mut Random, i: u64) -> Vec<u8> {
 /// A file with one fault, and the byte where it is.
 fn broken(random: &mut Random, draft: &Draft, refusal: u8) -> (Vec<u8>, usize) {
     let mut file = draft.file();
-    let pairs = 2 + draft.rules.len();
+    let pairs = FIXED_PAIRS + draft.rules.len();
     match refusal {
         1 => {
             let length = random.pick(&[0, 1, 2, 5, 1 + 4 * pairs]);
@@ -116,14 +124,18 @@ fn broken(random: &mut Random, draft: &Draft, refusal: u8) -> (Vec<u8>, usize) {
         5 => {
             let mut longer = draft.clone();
             let rule = random.below(draft.rules.len());
-            let at = match random.percent(50) {
-                true => {
+            let at = match random.below(3) {
+                0 => {
                     longer.kinds.push(0);
                     4
                 }
-                false => {
+                1 => {
+                    longer.carries.push(0);
+                    12
+                }
+                _ => {
                     longer.rules[rule].push(0);
-                    12 + 4 * rule
+                    4 + 4 * (FIXED_PAIRS + rule)
                 }
             };
             (longer.file(), at)
@@ -139,18 +151,19 @@ fn broken(random: &mut Random, draft: &Draft, refusal: u8) -> (Vec<u8>, usize) {
 /// A byte that breaks a file, and where.
 fn wrong_byte(random: &mut Random, draft: &Draft, refusal: u8) -> (usize, u8) {
     let file = draft.file();
-    let pairs = 2 + draft.rules.len();
+    let pairs = FIXED_PAIRS + draft.rules.len();
     let kinds = 2 + 4 * pairs;
     let cells = kinds + 32;
+    let carries = cells + 1024;
     let start = |rule: usize| {
-        let pair = 10 + 4 * rule;
+        let pair = 2 + 4 * (FIXED_PAIRS + rule);
         usize::from(file[pair]) + 256 * usize::from(file[pair + 1])
     };
     let rule = random.below(draft.rules.len());
     let tested = draft.rules.iter().position(|rule| rule[1] > 0).unwrap_or(0);
     match refusal {
         2 => (0, random.pick(&[0, 9, 200])),
-        3 => (1, random.pick(&[0, 1, 35, 255])),
+        3 => (1, random.pick(&[0, 2, 36, 255])),
         4 => {
             let at = 2 + 4 * random.below(pairs);
             (at, file[at].wrapping_add(1))
@@ -163,6 +176,11 @@ fn wrong_byte(random: &mut Random, draft: &Draft, refusal: u8) -> (usize, u8) {
         8 => {
             let (field, byte) = random.pick(&[(0, 0), (0, 5), (1, 5), (2, 0), (2, 7)]);
             (start(rule) + field, byte)
+        }
+        44 => {
+            let right = random.below(usize::from(draft.rights));
+            let beyond = random.between(usize::from(draft.rights), 7);
+            (carries + right, draft.carries[right] | 1 << beyond)
         }
         _ if random.percent(50) => (start(tested) + 3, draft.rights),
         _ => {

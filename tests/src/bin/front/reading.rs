@@ -1,8 +1,10 @@
 //! Printed steps read back into numbers: the words of a line, what they stand
-//! for, and what each step does on the reference's machine.
+//! for, what each step does on the reference's machine, and by which carried
+//! rights it could. And what rights carry, read back.
 
-use reference::file::{self, Rule};
-use reference::machine::run_file;
+use reference::carrying::carried;
+use reference::file::{self, Contents, Rule};
+use reference::machine::{run_file, AccessMatrix};
 use std::collections::BTreeMap;
 use tugcaphi::story::Jobs;
 use tugcaphi::words::Words;
@@ -14,8 +16,32 @@ pub struct Carried {
     pub file: Vec<u8>,
     /// What the last one did.
     pub last: Option<Effect>,
-    /// How many are of rules with spare blanks.
+    pub seen: Seen,
+}
+
+/// Of how many steps something was seen.
+#[derive(Clone, Copy, Debug, Default)]
+pub struct Seen {
+    /// Of rules with spare blanks.
     pub spare: u64,
+    /// With a condition that held by a right that carries its own.
+    pub carried: u64,
+}
+
+impl Seen {
+    pub fn add(&mut self, other: Seen) {
+        self.spare += other.spare;
+        self.carried += other.carried;
+    }
+}
+
+/// A condition that held by another right than its own: the right asked for, the
+/// cell, and the right that was there.
+#[derive(Clone, Copy, Debug, PartialEq)]
+struct Ground {
+    asked: usize,
+    cell: (usize, usize),
+    by: usize,
 }
 
 /// What the words stand for.
@@ -45,17 +71,18 @@ impl Reading {
     /// Steps without job numbers, numbered from 1: each can be done, and does what
     /// is said of it.
     pub fn steps(&self, lines: &[&str], file: &[u8]) -> Result<Carried, String> {
-        let rules = file::read(file).expect("an accepted file").rules;
+        let contents = file::read(file).expect("an accepted file");
+        let rules = &contents.rules;
         let mut carried = Carried {
             trace: Vec::new(),
             file: file.to_vec(),
             last: None,
-            spare: 0,
+            seen: Seen::default(),
         };
         for (i, line) in lines.iter().enumerate() {
             let mut words = Line::new(line.trim_start());
             words.expect(&format!("{}.", i + 1))?;
-            let step = self.call(&mut words, &rules, Jobs::LeftOut)?;
+            let step = self.call(&mut words, rules, Jobs::LeftOut)?;
             let before = carried.file.clone();
             let [rule, a, b, c, d] = step;
             let refusal = run_file(&mut carried.file, rule, [a, b, c, d]);
@@ -67,7 +94,15 @@ impl Reading {
                     i + 1
                 ));
             }
-            carried.spare += u64::from(!rules[usize::from(rule)].spare.is_empty());
+            let grounds = self.grounds(&mut words)?;
+            as_there(&contents, &before, step, &grounds)?;
+            if !words.rest.is_empty() {
+                return Err(format!("step {}: more is told: {}", i + 1, words.rest));
+            }
+            carried.seen.add(Seen {
+                spare: u64::from(!rules[usize::from(rule)].spare.is_empty()),
+                carried: u64::from(!grounds.is_empty()),
+            });
             carried.trace.extend(step);
             carried.last = Some(said);
         }
@@ -134,7 +169,9 @@ impl Reading {
         if verb == "creates" {
             line.expect("the")?;
             let kind = if line.word()? == "subject" { 2 } else { 1 };
-            return Ok(Effect::Kind(self.find(&self.names, &line.word()?)?, kind));
+            let name = self.find(&self.names, &line.word()?)?;
+            line.passes(", a new name");
+            return Ok(Effect::Kind(name, kind));
         }
         let right = self.find(&self.rights, &line.word()?)?;
         line.expect(if verb == "enters" { "into" } else { "from" })?;
@@ -144,6 +181,114 @@ impl Reading {
             "deletes" => Ok(Effect::Delete(right, subject, object)),
             _ => Err(format!("no verb: {verb}")),
         }
+    }
+}
+
+impl Reading {
+    /// `, since Ada has approve over Sun, which carries edit and read, and ..`.
+    fn grounds(&self, line: &mut Line) -> Result<Vec<Ground>, String> {
+        let mut grounds = Vec::new();
+        let mut between = ", since ";
+        while line.passes(between) {
+            between = ", and ";
+            let subject = self.find(&self.names, &line.word()?)?;
+            line.expect("has ")?;
+            let by = self.find(&self.rights, &line.word()?)?;
+            line.expect("over ")?;
+            let object = self.find(&self.names, &line.word()?)?;
+            line.expect(", which carries ")?;
+            loop {
+                grounds.push(Ground {
+                    asked: self.find(&self.rights, &line.word()?)?,
+                    cell: (subject, object),
+                    by,
+                });
+                let next = line.rest.starts_with(between);
+                if next || !(line.passes(", ") || line.passes("and ")) {
+                    break;
+                }
+            }
+        }
+        Ok(grounds)
+    }
+
+    /// `approve carries edit, read and print`, with its numbers.
+    fn carrying(&self, line: &str) -> Result<(usize, Vec<usize>), String> {
+        let mut line = Line::new(line);
+        let right = self.find(&self.rights, &line.word()?)?;
+        line.expect("carries ")?;
+        let mut others = Vec::new();
+        loop {
+            others.push(self.find(&self.rights, &line.word()?)?);
+            if line.rest.is_empty() {
+                return Ok((right, others));
+            }
+            if !line.passes(", ") {
+                line.expect("and ")?;
+            }
+        }
+    }
+
+    /// Lines that tell what rights carry tell all of it, in order.
+    pub fn legend<'a>(
+        &self,
+        lines: impl IntoIterator<Item = &'a str>,
+        carries: &[u8],
+    ) -> Result<(), String> {
+        let lines = lines.into_iter();
+        let told: Result<Vec<_>, String> = lines.map(|line| self.carrying(line)).collect();
+        let mut wanted = Vec::new();
+        for right in 0..carries.len() {
+            let all = carried(carries, right as u8).into_iter().map(usize::from);
+            let mut others: Vec<usize> = all.filter(|&other| other != right).collect();
+            others.sort_unstable();
+            if !others.is_empty() {
+                wanted.push((right, others));
+            }
+        }
+        match told? == wanted {
+            true => Ok(()),
+            false => Err(format!("not what rights carry: {wanted:?}")),
+        }
+    }
+
+    /// Whether a line tells what a right carries.
+    pub fn tells_carrying(&self, line: &str) -> bool {
+        self.carrying(line).is_ok()
+    }
+}
+
+/// What is told of carried rights is so before the step: each condition whose own
+/// right is not in its cell is told once, with a right that is there and carries it.
+fn as_there(
+    contents: &Contents,
+    before: &[u8],
+    step: [u8; 5],
+    told: &[Ground],
+) -> Result<(), String> {
+    let matrix = file::read(before).expect("an accepted file").matrix;
+    let mut wanted: Vec<(usize, (usize, usize))> = Vec::new();
+    for condition in &contents.rules[usize::from(step[0])].conditions {
+        let name = |blank: usize| usize::from(step[1 + blank]);
+        let cell = (name(condition.subject), name(condition.object));
+        let asked = (usize::from(condition.right), cell);
+        let held = matrix.cell(cell.0 as u64, cell.1 as u64);
+        if held >> condition.right & 1 == 0 && !wanted.contains(&asked) {
+            wanted.push(asked);
+        }
+    }
+    let mut asked: Vec<_> = told.iter().map(|one| (one.asked, one.cell)).collect();
+    asked.sort_unstable();
+    wanted.sort_unstable();
+    let there = |ground: &Ground| {
+        let (subject, object) = ground.cell;
+        let held = matrix.cell(subject as u64, object as u64) >> ground.by & 1 == 1;
+        let all = carried(&contents.carries, ground.by as u8);
+        held && all.contains(&(ground.asked as u8))
+    };
+    match asked == wanted && told.iter().all(there) {
+        true => Ok(()),
+        false => Err(format!("told {told:?}, of {wanted:?}")),
     }
 }
 

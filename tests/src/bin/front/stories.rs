@@ -5,7 +5,7 @@
 //! are told.
 
 use super::execute::Folder;
-use super::reading::{Effect, Line, Reading};
+use super::reading::{Effect, Line, Reading, Seen};
 use super::wording::Wording;
 use reference::file;
 use reference::generate::{chain, large, likely_run, lively, small, Draft};
@@ -44,7 +44,7 @@ pub fn run(report: &mut Report, seed: u64) {
     });
     let mut random = Random::new(seed ^ 0x5708);
     report.group("steps in words of random tables", 400, |group| {
-        let mut spare = 0;
+        let mut seen = Seen::default();
         for i in 0..400 {
             let draft = single(&mut random, |random| match i % 4 {
                 0 => large(random).0,
@@ -56,10 +56,10 @@ pub fn run(report: &mut Report, seed: u64) {
             let wording = Wording::any(&mut random, &draft);
             let (content, verdicts) = contents(&file, &wording, &[]);
             let printed = lines(&content, &verdicts, Style::PLAIN);
-            spare += held(group, &content.words, &file, &[], &printed);
+            seen.add(held(group, &content.words, &file, &[], &printed));
         }
-        group.demand(spare >= 500, || {
-            format!("only {spare} steps of rules with spare blanks")
+        group.demand(seen.spare >= 500 && seen.carried >= 200, || {
+            format!("steps of rules with spare blanks, by carried rights: {seen:?}")
         });
     });
     report.group("job numbers in words", 4_000, |group| {
@@ -144,8 +144,8 @@ pub fn contents(file: &[u8], wording: &Wording, without: &[u8]) -> (Content, Vec
 }
 
 /// Holds every printed verdict, and which names were left out, to the file. Gives
-/// the number of steps of rules with spare blanks.
-pub fn held(group: &mut Group, words: &Words, file: &[u8], without: &[u8], printed: &str) -> u64 {
+/// what was seen in its steps.
+pub fn held(group: &mut Group, words: &Words, file: &[u8], without: &[u8], printed: &str) -> Seen {
     let reading = Reading::new(words);
     let mut printed = printed;
     if !without.is_empty() {
@@ -167,13 +167,13 @@ pub fn held(group: &mut Group, words: &Words, file: &[u8], without: &[u8], print
     group.demand(verdicts.len() == usize::from(file[0]), || {
         format!("verdicts: {printed}")
     });
-    let mut spare = 0;
+    let mut seen = Seen::default();
     for (right, verdict) in verdicts.iter().enumerate() {
         let said = self::verdict(&reading, right, verdict, file, without);
         group.input(said.is_ok(), || format!("{said:?} in {verdict:?}"));
-        spare += said.unwrap_or(0);
+        seen.add(said.unwrap_or_default());
     }
-    spare
+    seen
 }
 
 /// The first line of verdicts without some names has these names.
@@ -194,7 +194,7 @@ fn verdict(
     lines: &[&str],
     file: &[u8],
     without: &[u8],
-) -> Result<u64, String> {
+) -> Result<Seen, String> {
     let mut head = Line::new(lines[0]);
     let asked = reading.find(&reading.rights, &head.word()?)?;
     let verdict = head.word()?;
@@ -208,7 +208,7 @@ fn verdict(
     };
     match (verdict.as_str(), answer) {
         ("SAFE", Judgement::Safe(_)) => {
-            holding(reading, lines[0], right, file, without).map(|()| 0)
+            holding(reading, lines[0], right, file, without).map(|()| Seen::default())
         }
         ("UNSAFE", Judgement::Unsafe(steps)) => {
             let trace = &buffer[..5 * steps as usize];
@@ -225,7 +225,7 @@ fn leaking(
     lines: &[&str],
     file: &[u8],
     trace: &[u8],
-) -> Result<u64, String> {
+) -> Result<Seen, String> {
     let (last, steps) = lines.split_last().ok_or("no steps")?;
     let told = reading.steps(steps, file)?;
     let mut words = Line::new(last.trim_start());
@@ -244,7 +244,7 @@ fn leaking(
             "replayed {code} at {step}, told {told:?}, trace {trace:?}"
         ));
     }
-    Ok(told.spare)
+    Ok(told.seen)
 }
 
 /// SAFE tells how many cells of the names that stay hold the right, and with whom

@@ -17,6 +17,9 @@ pub struct Wording {
 const RESERVED: &str = "table rights subjects objects cell rule if and in enter into delete from \
                         create destroy subject object";
 
+/// A word of the format's own at the beginning of a line alone.
+const BEGINS: &str = "carries";
+
 impl Wording {
     /// Words of all sorts. Names are numbered ones now and then, as for ranges.
     pub fn any(random: &mut Random, draft: &Draft) -> Wording {
@@ -91,8 +94,9 @@ fn one(random: &mut Random, of: &str) -> char {
 fn spell(random: &mut Random) -> String {
     let word = match random.below(10) {
         0 => {
-            let reserved: Vec<&str> = RESERVED.split_whitespace().collect();
-            random.pick(&reserved).to_string()
+            let reserved = RESERVED.split_whitespace();
+            let own: Vec<&str> = reserved.chain([BEGINS; 4]).collect();
+            random.pick(&own).to_string()
         }
         1..=3 => anything(random),
         4 => format!("{}-{}", one(random, LETTERS), one(random, LETTERS)),

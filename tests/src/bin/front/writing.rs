@@ -16,6 +16,7 @@ pub fn text(random: &mut Random, draft: &Draft, wording: &Wording) -> Vec<u8> {
     }
     writer.line("table 1");
     writer.rights(wording);
+    writer.carries(draft, wording);
     writer.names(draft, wording);
     let mut statements = writer.cells(draft, wording);
     let rules = writer.rules(draft, wording);
@@ -137,6 +138,25 @@ impl Writer<'_> {
         let order = self.order(wording.rights.len());
         let items = self.items(&wording.rights, &order);
         self.lists(items.into_iter().map(|item| ("rights", item)).collect());
+    }
+
+    /// A line for each right that carries some, in any order.
+    fn carries(&mut self, draft: &Draft, wording: &Wording) {
+        let mut statements = Vec::new();
+        for (right, &set) in draft.carries.iter().enumerate() {
+            let mut carried: Vec<usize> = (0..8).filter(|one| set >> one & 1 == 1).collect();
+            self.random.shuffle(&mut carried);
+            let mut lexemes = vec!["carries".to_string(), self.word(&wording.rights[right])];
+            for (i, &one) in carried.iter().enumerate() {
+                lexemes.push(if i == 0 { ":" } else { "," }.to_string());
+                lexemes.push(self.word(&wording.rights[one]));
+            }
+            if !carried.is_empty() {
+                statements.push(lexemes);
+            }
+        }
+        self.random.shuffle(&mut statements);
+        self.statements(&statements);
     }
 
     /// Lists in one line or in several.

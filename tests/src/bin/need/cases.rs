@@ -73,7 +73,41 @@ fn all() -> Vec<Case> {
     let mut all = one_rule();
     all.extend(order());
     all.extend(creates());
+    all.extend(carried());
     all
+}
+
+/// Rights that carry others (request C-19): "a press's cells still look at the
+/// cell's own bits", and the rules' conditions at what they carry.
+fn carried() -> Vec<Case> {
+    let mut draft = three(3);
+    draft.put(0, 2, 1);
+    draft.rules = vec![
+        rule(2, &[[0, 0, 1]], &[[ENTER, 2, 0, 1]]),
+        rule(2, &[[2, 0, 1]], &[[ENTER, 1, 1, 1]]),
+    ];
+    let mut plain = draft.clone();
+    plain.put(0, 2, 2);
+    draft.carry(1, 0);
+    let mut through = draft.clone();
+    through.carries[1] = 0;
+    through.carry(1, 2);
+    through.carry(2, 0);
+    let mut late = draft.clone();
+    late.rules[0] = rule(2, &[[0, 0, 1]], &[[ENTER, 0, 0, 1]]);
+    let entered = [0, 0, 2, X, X];
+    vec![
+        // What is carried is not held, and what carries lets it come.
+        Case::new(&draft, &[1, 0, 2], HELD, &[]),
+        Case::new(&draft, &[0, 0, 2], NEVER, &[entered]),
+        Case::new(&draft, &[2, 0, 2], HELD, &[entered]),
+        Case::new(&plain, &[0, 0, 2], NEVER, &[]),
+        Case::new(&through, &[2, 0, 2], HELD, &[entered]),
+        Case::new(&through, &[0, 0, 2], NEVER, &[entered]),
+        Case::new(&late, &[0, 0, 2], HELD, &[entered]),
+        Case::new(&late, &[0, 0, 2, 1, 0, 2], HELD, &[entered]),
+        Case::new(&late, &[2, 0, 2], NEVER, &[entered]),
+    ]
 }
 
 /// Names 0 and 1 are subjects, 2 is an object.

@@ -63,8 +63,8 @@ fn main() {
     report.group("buffer lengths", 4_000, |group| {
         lengths(group, library, random, &mut counts)
     });
-    report.group("each answer was seen", 15, |group| {
-        let answers = [NEVER, 1, 2, 3, 4, 5, 6, 7, 8, 9, 22, 23, 24, 41, HELD];
+    report.group("each answer was seen", 16, |group| {
+        let answers = [NEVER, 1, 2, 3, 4, 5, 6, 7, 8, 9, 22, 23, 24, 41, 44, HELD];
         counts.demand(group, &answers, 100);
     });
     counts.print("answers (0 is never, 255 is held)");

@@ -65,7 +65,47 @@ fn all() -> Vec<Case> {
     all.extend(created());
     all.extend(closing());
     all.extend(steps_of_the_part());
+    all.extend(carried());
     all
+}
+
+/// Rights carry others in the part as in the whole (request C-19).
+fn carried() -> Vec<Case> {
+    let mut draft = Draft::empty(3);
+    draft.kinds[..3].copy_from_slice(&[2, 2, 1]);
+    draft.put(0, 2, 1);
+    draft.put(1, 2, 2);
+    draft.rules.push(rule(2, &[[0, 0, 1]], &[[ENTER, 0, 0, 1]]));
+    let plain = draft.clone();
+    draft.carry(2, 1);
+    draft.carry(1, 0);
+    // The closing search: what stays in the cell carries what went.
+    let mut closing = Draft::empty(2);
+    closing.kinds[..2].copy_from_slice(&[2, 2]);
+    for name in [0, 1] {
+        closing.put(name, name, 0);
+        closing.put(name, name, 1);
+    }
+    closing.carry(1, 0);
+    closing.rules = vec![
+        rule(2, &[], &[[DELETE, 0, 0, 1]]),
+        rule(2, &[[0, 0, 1]], &[[ENTER, 0, 0, 1]]),
+    ];
+    vec![
+        Case::new(&draft, 0, &[], UNSAFE, &[[0, 0, 2, X, X]]),
+        Case::new(&draft, 0, &[0], UNSAFE, &[[0, 1, 2, X, X]]),
+        Case::new(&draft, 0, &[1], UNSAFE, &[[0, 0, 2, X, X]]),
+        Case::new(&draft, 0, &[0, 1], SAFE, &[]),
+        Case::new(&plain, 0, &[0], SAFE, &[]),
+        Case::new(
+            &closing,
+            0,
+            &[0],
+            UNSAFE,
+            &[[0, 1, 1, X, X], [1, 1, 1, X, X]],
+        ),
+        Case::new(&closing.carrying_nothing(), 0, &[0], SAFE, &[]),
+    ]
 }
 
 /// P1: names 0 and 1 are subjects, 2 is an object on which 0 has right 0; who has

@@ -63,8 +63,10 @@ fn main() {
     report.group("without anybody it is the judge", 6_000, |group| {
         nobody(group, library, judge, random)
     });
-    report.group("each answer was seen", 16, |group| {
-        let answers = [SAFE, 1, 2, 3, 4, 5, 6, 7, 8, 9, 21, 22, 23, 24, 42, UNSAFE];
+    report.group("each answer was seen", 17, |group| {
+        let answers = [
+            SAFE, 1, 2, 3, 4, 5, 6, 7, 8, 9, 21, 22, 23, 24, 42, 44, UNSAFE,
+        ];
         counts.demand(group, &answers, 100);
     });
     counts.print("answers (0 is safe, 255 is unsafe)");

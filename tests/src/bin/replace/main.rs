@@ -200,7 +200,7 @@ fn make_waits(scene: &Scene, group: &mut Group) {
     let answer = waits(group, scene.command(&words), &|| {
         lock.unlock().expect("our lock")
     });
-    let made = answer.status == Some(0) && scene.read(FILE).len() == 1_066;
+    let made = answer.status == Some(0) && scene.read(FILE).len() == 1_071;
     let kept = scene.mode(FILE) == 0o600 && scene.names() == [FILE, "words"];
     group.input(made && kept, || format!("make, after waiting: {answer:?}"));
 }
@@ -232,7 +232,7 @@ fn held(scene: &Scene, group: &mut Group) {
 /// A house file whose length is a whole number of steps.
 fn house_of_steps() -> Vec<u8> {
     let mut draft = Draft::empty(8);
-    for _ in 0..4 {
+    for _ in 0..2 {
         draft.rules.push(rule(1, &[], &[[CREATE_SUBJECT, 0, 0, 0]]));
     }
     let file = draft.file();

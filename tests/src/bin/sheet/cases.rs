@@ -73,7 +73,46 @@ fn all() -> Vec<Case> {
     all.extend(too_many());
     all.extend(bad_files());
     all.extend(counts());
+    all.extend(carried());
     all
+}
+
+/// Rights that carry others (request C-19), whichever entry asks: 1 carries 0, and
+/// lets 2 in.
+fn carried() -> Vec<Case> {
+    let mut draft = Draft::empty(3);
+    draft.kinds[0] = 2;
+    draft.put(0, 0, 1);
+    draft.carry(1, 0);
+    draft.rules.push(rule(1, &[[0, 0, 0]], &[[ENTER, 2, 0, 0]]));
+    // 5 × (3 × 2 × 3 + 4) bytes are needed.
+    let length = 110;
+    let step = vec![0, 0, X, X, X];
+    let case = |draft: &Draft, answers: [[u8; 4]; 3], written| Case {
+        file: draft.file(),
+        entries: sheet(&[0, 2, 1]),
+        length: 3 * length,
+        code: 0,
+        answered: answers.concat(),
+        written,
+    };
+    let steps = vec![
+        (0, step.clone()),
+        (length, step.clone()),
+        (2 * length, step),
+    ];
+    vec![
+        case(
+            &draft,
+            [[0, 0, 1, 0], [2, UNSAFE, 1, 0], [1, 0, 1, 0]],
+            steps,
+        ),
+        case(
+            &draft.carrying_nothing(),
+            [[0, 0, 0, 0], [2, 0, 0, 0], [1, 0, 0, 0]],
+            Vec::new(),
+        ),
+    ]
 }
 
 /// P1: right 1 is unsafe by one step, right 0 safe after two; a call of its own
@@ -247,11 +286,12 @@ fn bad_files() -> Vec<Case> {
         (with(0, 9), 2),
         (with(1, 1), 3),
         (good[..100].to_vec(), 4),
-        (with(1_072, 2), 5),
-        (with(14, 3), 6),
-        (with(46, 4), 7),
-        (with(1_070, 5), 8),
-        (with(1_073, 2), 9),
+        (with(1_078, 2), 5),
+        (with(18, 3), 6),
+        (with(50, 4), 7),
+        (with(1_075, 4), 44),
+        (with(1_076, 5), 8),
+        (with(1_079, 2), 9),
     ]
     .into_iter()
     .flat_map(|(file, code)| {

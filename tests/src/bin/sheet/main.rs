@@ -46,8 +46,8 @@ fn main() {
     report.group("buffer lengths", 6_000, |group| {
         lengths(group, library, random, &mut counts)
     });
-    report.group("each answer was seen", 15, |group| {
-        let answers = [SAFE, 1, 2, 3, 4, 5, 6, 7, 8, 9, 21, 22, 23, 24, UNSAFE];
+    report.group("each answer was seen", 16, |group| {
+        let answers = [SAFE, 1, 2, 3, 4, 5, 6, 7, 8, 9, 21, 22, 23, 24, 44, UNSAFE];
         counts.demand(group, &answers, 100);
     });
     counts.print("answers of entries (0 is safe, 255 is unsafe)");

@@ -141,7 +141,7 @@ fn any(group: &mut Group, library: Library, random: &mut Random) {
     while group.inputs < 3_000 {
         let file = match random.below(4) {
             0 => {
-                let length = random.pick(&[0, 1, 2, 9, 1_066, 5_000]);
+                let length = random.pick(&[0, 1, 2, 9, 1_071, 5_000]);
                 random.bytes(length)
             }
             _ => small(random).file(),

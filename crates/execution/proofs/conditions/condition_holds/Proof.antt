@@ -1,4 +1,4 @@
-use Rattle.execution.proofs.Asked.{condition-is}
+use Rattle.execution.proofs.Asked.{condition-met, condition-lacks}
 use borrow.Author.Needs.{needs}
 use Rattle.execution.proofs.conditions.condition_holds.Statement.{statement}
 use Rattle.execution.proofs.conditions.condition_holds.Tie as tie
@@ -33,11 +33,29 @@ element-copy-out-name-of-2 c = search needs
 name-of-requires-2 : tie.Need-name-of-requires-2
 name-of-requires-2 c κs = search needs
 
-cell-holds-requires : tie.Need-cell-holds-requires
-cell-holds-requires c κs = search needs
+has-cell-requires : tie.Need-has-cell-requires
+has-cell-requires c κs = search needs
+
+mul-result : tie.Need-mul-result
+mul-result c = search needs
+
+add-result : tie.Need-add-result
+add-result c = search needs
+
+element-copy-out-result : tie.Need-element-copy-out-result
+element-copy-out-result c = search needs
+
+cast-result : tie.Need-cast-result
+cast-result c = search needs
+
+array-read-result : tie.Need-array-read-result
+array-read-result c = search needs
 
 returns : tie.Need-returns
-returns c = search condition-is
+returns c = search condition-met
+
+returns-2 : tie.Need-returns-2
+returns-2 c = search condition-lacks
 
 pub condition-holds-spec : {M : Type 1} → statement M
 condition-holds-spec =
@@ -53,5 +71,11 @@ condition-holds-spec =
     add-name-of-2
     element-copy-out-name-of-2
     name-of-requires-2
-    cell-holds-requires
-    returns)
+    has-cell-requires
+    mul-result
+    add-result
+    element-copy-out-result
+    cast-result
+    array-read-result
+    returns
+    returns-2)

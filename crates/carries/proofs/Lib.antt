@@ -1,0 +1,4 @@
+pub mod Sets
+pub mod Closing
+pub mod Meeting
+pub mod Refusing

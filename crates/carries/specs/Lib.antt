@@ -1,0 +1,4 @@
+pub mod Bytes
+pub mod Refusals
+pub mod Closed
+pub mod Meeting

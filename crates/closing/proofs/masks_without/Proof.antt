@@ -1,0 +1,37 @@
+use Rattle.closing.proofs.ClosingCalls.{masks-left}
+use borrow.Author.Needs.{needs}
+use Rattle.closing.proofs.masks_without.Statement.{statement}
+use Rattle.closing.proofs.masks_without.Tie as tie
+use Rattle.closing.proofs.masks_without.Reads as reads
+use Rattle.closing.proofs.masks_without.Lts as lts
+use Rattle.masks.proofs.with_cell.Reads as with-cell-reads
+use Rattle.rights.proofs.without_right.Reads as without-right-reads
+
+mul-without-right : tie.Need-mul-without-right
+mul-without-right c = search needs
+
+add-without-right : tie.Need-add-without-right
+add-without-right c = search needs
+
+element-copy-out-without-right : tie.Need-element-copy-out-without-right
+element-copy-out-without-right c = search needs
+
+without-right-requires : tie.Need-without-right-requires
+without-right-requires c κs = search needs
+
+with-cell-requires : tie.Need-with-cell-requires
+with-cell-requires c κs = search needs
+
+returns : tie.Need-returns
+returns c = search masks-left
+
+pub masks-without-spec : {M : Type 1} → statement M
+masks-without-spec =
+    tie.close
+    (tie.spec
+    mul-without-right
+    add-without-right
+    element-copy-out-without-right
+    without-right-requires
+    with-cell-requires
+    returns)
