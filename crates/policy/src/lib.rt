@@ -11,6 +11,7 @@ ghost use Rattle.policy.specs.Layout.{MatrixInside, CarriesInside, Comma
 use commands::Command;
 use commands::CommandRead;
 use matrix::Matrix;
+use rights::Set;
 
 // How many rights and commands there are, the matrix, and the commands; places behind the last command hold none. Of each right, what the file says that it
 // carries, and through further rights the set of those that it carries and of those that carry it.
@@ -18,9 +19,9 @@ pub struct Policy {
     pub rights: u8,
     pub commands: u8,
     pub matrix: Matrix,
-    pub carries: [u8; Matrix::RIGHTS as usize],
-    pub carried: [u8; Matrix::RIGHTS as usize],
-    pub carriers: [u8; Matrix::RIGHTS as usize],
+    pub carries: [Set; Matrix::RIGHTS as usize],
+    pub carried: [Set; Matrix::RIGHTS as usize],
+    pub carriers: [Set; Matrix::RIGHTS as usize],
     pub command: [Command; Policy::COMMANDS],
 }
 
@@ -46,9 +47,9 @@ impl Policy {
             rights: 0,
             commands: 0,
             matrix: Matrix::empty(),
-            carries: [0u8; Matrix::RIGHTS as usize],
-            carried: [0u8; Matrix::RIGHTS as usize],
-            carriers: [0u8; Matrix::RIGHTS as usize],
+            carries: [rights::NONE; Matrix::RIGHTS as usize],
+            carried: [rights::NONE; Matrix::RIGHTS as usize],
+            carriers: [rights::NONE; Matrix::RIGHTS as usize],
             command: [Command::none(); Policy::COMMANDS],
         }
     }
@@ -73,19 +74,19 @@ fn matrix_of(file: &[u8]) -> Matrix
     bytes::copy(&file[k..k_end], &mut kinds);
     let c = layout::word_at(file, 6);
     let c_end = c + Matrix::NAMES * Matrix::NAMES;
-    let mut cells = [0u8; Matrix::NAMES * Matrix::NAMES];
+    let mut cells = [rights::NONE; Matrix::NAMES * Matrix::NAMES];
     bytes::copy(&file[c..c_end], &mut cells);
     Matrix { kinds, cells }
 }
 
 // A copy of the carries, in front of zeros.
-fn carries_of(file: &[u8], g: u8) -> [u8; Matrix::RIGHTS as usize]
+fn carries_of(file: &[u8], g: u8) -> [Set; Matrix::RIGHTS as usize]
     requires { ⌜ CarriesInside (now file) g ⌝ }
     ensures { λ r. ⌜ r ≡ carriesTable (carriesIn (now (file .entry))) ⌝ }
 {
     let start = layout::word_at(file, 10);
     let end = start + g as usize;
-    let mut carries = [0u8; Matrix::RIGHTS as usize];
+    let mut carries = [rights::NONE; Matrix::RIGHTS as usize];
     bytes::copy(&file[start..end], &mut carries);
     carries
 }

@@ -1,8 +1,12 @@
+use native.Mathlib.Omega.{arith}
 use Rattle.cases.proofs.Picks.{cases}
 use Rattle.matrix.specs.Refusals.{cellFits}
 use borrow.Author.Needs.{needs}
 use Rattle.matrix.proofs.cells.cell_fits.Statement.{statement}
 use Rattle.matrix.proofs.cells.cell_fits.Tie as tie
+
+mul-cell : tie.Need-mul-cell
+mul-cell c = omega arith
 
 element-copy-out-cell : tie.Need-element-copy-out-cell
 element-copy-out-cell c = search needs
@@ -28,10 +32,4 @@ returns-3 c = search cases depth 8
 pub cell-fits-spec : {M : Type 1} → statement M
 cell-fits-spec =
     tie.close
-    (tie.spec
-    element-copy-out-cell
-    none-from-requires
-    returns
-    has-cell-requires
-    returns-2
-    returns-3)
+    (tie.spec mul-cell element-copy-out-cell none-from-requires returns has-cell-requires returns-2 returns-3)
