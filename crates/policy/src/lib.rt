@@ -4,7 +4,6 @@ ghost use Prim.Native.Nat.{_+_, _*_, _≤_, _<_};
 ghost use lib.ListN.{length, getD};
 ghost use Rattle.protection.specs.Limits.{commands};
 ghost use Rattle.layout.specs.File.{rightsOf, carriesIn, commandIn};
-ghost use Rattle.carries.specs.Bytes.{carriesTable};
 ghost use Rattle.policy.specs.Contents.{matrixIn, commandsRead, noPolicy, refusedRead, policyRead};
 ghost use Rattle.commands.specs.Contents.{missing, commandRead};
 ghost use Rattle.policy.specs.Layout.{MatrixInside, CarriesInside, CommandInside, CommandsInside};
@@ -63,7 +62,7 @@ impl Policy {
     }
 }
 
-// A copy of the kinds and the cells.
+// The kinds and the cells.
 fn matrix_of(file: &[u8]) -> Matrix
     requires { ⌜ MatrixInside (now file) ⌝ }
     ensures { λ r. ⌜ r ≡ matrixIn (now (file .entry)) ⌝ }
@@ -73,21 +72,21 @@ fn matrix_of(file: &[u8]) -> Matrix
     let mut kinds = [0u8; Matrix::NAMES];
     bytes::copy(&file[k..k_end], &mut kinds);
     let c = layout::word_at(file, 6);
-    let c_end = c + Matrix::NAMES * Matrix::NAMES;
+    let c_end = c + rights::bytes::SIZE * (Matrix::NAMES * Matrix::NAMES);
     let mut cells = [rights::NONE; Matrix::NAMES * Matrix::NAMES];
-    bytes::copy(&file[c..c_end], &mut cells);
+    rights::bytes::read_sets(&file[c..c_end], &mut cells);
     Matrix { kinds, cells }
 }
 
-// A copy of the carries, in front of zeros.
+// The carries, in front of empty sets.
 fn carries_of(file: &[u8], g: u8) -> [Set; Matrix::RIGHTS as usize]
     requires { ⌜ CarriesInside (now file) g ⌝ }
-    ensures { λ r. ⌜ r ≡ carriesTable (carriesIn (now (file .entry))) ⌝ }
+    ensures { λ r. ⌜ r ≡ carriesIn (now (file .entry)) ⌝ }
 {
     let start = layout::word_at(file, 10);
-    let end = start + g as usize;
+    let end = start + rights::bytes::SIZE * (g as usize);
     let mut carries = [rights::NONE; Matrix::RIGHTS as usize];
-    bytes::copy(&file[start..end], &mut carries);
+    rights::bytes::read_sets(&file[start..end], &mut carries);
     carries
 }
 
