@@ -57,12 +57,12 @@ module _ (asks carriers : List ℕ) (k set : ℕ) where
   pub lacking-start : LackingIn asks carriers k set 0
   lacking-start = record { says = λ i t. absurd (clash (has 0 i) (has-none i) t) }
 
-  module _ (mask q : ℕ) (K : LackingIn asks carriers k set mask) (l : q < 8) where
-    pub lacking-more : bitAnd set (getD carriers q 0) ≡ 0 → (new : ℕ) → new ≡ bitOr mask (getD asks (8 * k + q) 0) → LackingIn asks carriers k set new
+  module _ (mask q : ℕ) (K : LackingIn asks carriers k set mask) (l : q < rights) where
+    pub lacking-more : bitAnd set (getD carriers q 0) ≡ 0 → (new : ℕ) → new ≡ bitOr mask (getD asks (rights * k + q) 0) → LackingIn asks carriers k set new
     lacking-more e new f = record {
       says = λ (i : ℕ) (t : has new i ≡ true). ⊎-elim (K .says i)
-          (λ (u : has (getD asks (8 * k + q) 0) i ≡ true). record { right = q; small = l; lacks = e; asked = u })
-          (or-has mask (getD asks (8 * k + q) 0) i (ap (λ (w : ℕ). has w i) (sym f) ∙ t));
+          (λ (u : has (getD asks (rights * k + q) 0) i ≡ true). record { right = q; small = l; lacks = e; asked = u })
+          (or-has mask (getD asks (rights * k + q) 0) i (ap (λ (w : ℕ). has w i) (sym f) ∙ t));
     }
 
     pub lacking-same : (bitAnd set (getD carriers q 0) ≡ 0 → ⊥) → (new : ℕ) → new ≡ mask → LackingIn asks carriers k set new

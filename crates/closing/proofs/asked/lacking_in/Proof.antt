@@ -1,3 +1,4 @@
+use Rattle.protection.specs.Limits.{rights}
 use Rattle.closing.proofs.Lacking.{lacking-start, lacking-more, lacking-same}
 use Prim.Native.Nat.{_-_, _≤_}
 use mathlib.Core.Logic.{⊎-elim}
@@ -10,10 +11,10 @@ use Rattle.closing.proofs.asked.lacking_in.Reads as reads
 use Rattle.closing.proofs.asked.lacking_in.Lts as lts
 
 abbrev Inv-loop : tie.InvT-loop
-Inv-loop asks carriers k set mask₀ q₀ mask q = (q ≤ 8) × LackingIn asks carriers k set mask
+Inv-loop asks carriers k set mask₀ q₀ mask q = (q ≤ rights) × LackingIn asks carriers k set mask
 
 abbrev μ-loop : tie.MeasureT-loop
-μ-loop asks carriers k set mask₀ q₀ mask q = 8 - q
+μ-loop asks carriers k set mask₀ q₀ mask q = rights - q
 
 loop-holds : tie.Need-loop-holds Inv-loop μ-loop
 loop-holds c = (omega arith, search lacking-start)
