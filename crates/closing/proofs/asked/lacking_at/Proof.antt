@@ -1,3 +1,4 @@
+use native.Mathlib.Omega.{arith}
 use Rattle.closing.proofs.Lacking.{lacking-four}
 use borrow.Author.Needs.{needs}
 use Rattle.closing.proofs.asked.lacking_at.Statement.{statement}
@@ -12,17 +13,23 @@ mul-lacking-in c = search needs
 add-lacking-in : tie.Need-add-lacking-in
 add-lacking-in c = search needs
 
+mul-lacking-in-2 : tie.Need-mul-lacking-in-2
+mul-lacking-in-2 c = omega arith
+
 element-copy-out-lacking-in : tie.Need-element-copy-out-lacking-in
 element-copy-out-lacking-in c = search needs
 
 lacking-in-requires : tie.Need-lacking-in-requires
 lacking-in-requires c κs = search needs
 
-mul-lacking-in-2 : tie.Need-mul-lacking-in-2
-mul-lacking-in-2 c = search needs
+mul-lacking-in-3 : tie.Need-mul-lacking-in-3
+mul-lacking-in-3 c = search needs
 
 add-lacking-in-2 : tie.Need-add-lacking-in-2
 add-lacking-in-2 c = search needs
+
+mul-lacking-in-4 : tie.Need-mul-lacking-in-4
+mul-lacking-in-4 c = omega arith
 
 element-copy-out-lacking-in-2 : tie.Need-element-copy-out-lacking-in-2
 element-copy-out-lacking-in-2 c = search needs
@@ -30,11 +37,14 @@ element-copy-out-lacking-in-2 c = search needs
 lacking-in-requires-2 : tie.Need-lacking-in-requires-2
 lacking-in-requires-2 c κs = search needs
 
-mul-lacking-in-3 : tie.Need-mul-lacking-in-3
-mul-lacking-in-3 c = search needs
+mul-lacking-in-5 : tie.Need-mul-lacking-in-5
+mul-lacking-in-5 c = search needs
 
 add-lacking-in-3 : tie.Need-add-lacking-in-3
 add-lacking-in-3 c = search needs
+
+mul-lacking-in-6 : tie.Need-mul-lacking-in-6
+mul-lacking-in-6 c = omega arith
 
 element-copy-out-lacking-in-3 : tie.Need-element-copy-out-lacking-in-3
 element-copy-out-lacking-in-3 c = search needs
@@ -42,11 +52,14 @@ element-copy-out-lacking-in-3 c = search needs
 lacking-in-requires-3 : tie.Need-lacking-in-requires-3
 lacking-in-requires-3 c κs = search needs
 
-mul-lacking-in-4 : tie.Need-mul-lacking-in-4
-mul-lacking-in-4 c = search needs
+mul-lacking-in-7 : tie.Need-mul-lacking-in-7
+mul-lacking-in-7 c = search needs
 
 add-lacking-in-4 : tie.Need-add-lacking-in-4
 add-lacking-in-4 c = search needs
+
+mul-lacking-in-8 : tie.Need-mul-lacking-in-8
+mul-lacking-in-8 c = omega arith
 
 element-copy-out-lacking-in-4 : tie.Need-element-copy-out-lacking-in-4
 element-copy-out-lacking-in-4 c = search needs
@@ -60,21 +73,4 @@ returns c = search lacking-four
 pub lacking-at-spec : {M : Type 1} → statement M
 lacking-at-spec =
     tie.close
-    (tie.spec
-    mul-lacking-in
-    add-lacking-in
-    element-copy-out-lacking-in
-    lacking-in-requires
-    mul-lacking-in-2
-    add-lacking-in-2
-    element-copy-out-lacking-in-2
-    lacking-in-requires-2
-    mul-lacking-in-3
-    add-lacking-in-3
-    element-copy-out-lacking-in-3
-    lacking-in-requires-3
-    mul-lacking-in-4
-    add-lacking-in-4
-    element-copy-out-lacking-in-4
-    lacking-in-requires-4
-    returns)
+    (tie.spec mul-lacking-in add-lacking-in mul-lacking-in-2 element-copy-out-lacking-in lacking-in-requires mul-lacking-in-3 add-lacking-in-2 mul-lacking-in-4 element-copy-out-lacking-in-2 lacking-in-requires-2 mul-lacking-in-5 add-lacking-in-3 mul-lacking-in-6 element-copy-out-lacking-in-3 lacking-in-requires-3 mul-lacking-in-7 add-lacking-in-4 mul-lacking-in-8 element-copy-out-lacking-in-4 lacking-in-requires-4 returns)

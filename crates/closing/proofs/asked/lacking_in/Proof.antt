@@ -19,6 +19,9 @@ abbrev μ-loop : tie.MeasureT-loop
 loop-holds : tie.Need-loop-holds Inv-loop μ-loop
 loop-holds c = (omega arith, search lacking-start)
 
+mul-if1 : tie.Need-mul-if1 Inv-loop μ-loop
+mul-if1 c = omega arith
+
 element-copy-out-if1 : tie.Need-element-copy-out-if1 Inv-loop μ-loop
 element-copy-out-if1 c = search needs
 
@@ -52,17 +55,4 @@ returns c = search needs
 pub lacking-in-spec : {M : Type 1} → statement M
 lacking-in-spec =
     tie.close
-    (tie.spec
-    Inv-loop
-    μ-loop
-    loop-holds
-    element-copy-out-if1
-    cast-mask
-    mul-mask
-    add-mask
-    mul-mask-2
-    element-copy-out-mask
-    add-q
-    loop-less
-    loop-again
-    returns)
+    (tie.spec Inv-loop μ-loop loop-holds mul-if1 element-copy-out-if1 cast-mask mul-mask add-mask mul-mask-2 element-copy-out-mask add-q loop-less loop-again returns)
