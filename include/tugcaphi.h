@@ -68,10 +68,17 @@ extern "C" {
 #define TUGCAPHI_ENTRIES 8
 
 /*
- * A buffer of so many bytes is long enough for every call that takes one, whatever the file: 5 * (8 * 31 * 32 + 4). A sheet
- * needs so many for each entry.
+ * A house file has at most so many rights. A set of rights, a cell of the file or what a right carries, is a number of so many
+ * bytes, low byte first, in which right i counts 2 to the power i.
  */
-#define TUGCAPHI_BUFFER 39700
+#define TUGCAPHI_RIGHTS 12
+#define TUGCAPHI_SET 2
+
+/*
+ * A buffer of so many bytes is long enough for every call that takes one, whatever the file: 59,540. A sheet needs so many for
+ * each entry.
+ */
+#define TUGCAPHI_BUFFER (TUGCAPHI_STEP * (TUGCAPHI_RIGHTS * 31 * 32 + 4))
 
 /*
  * Bytes of stack that are enough for each call. This is measured and not proved: access_check used about 6,100 bytes, access_run
