@@ -256,12 +256,10 @@ fn holding(
     file: &[u8],
     without: &[u8],
 ) -> Result<(), String> {
-    let part = part(file, without);
-    let cells = file::kinds_offset(file) + 32;
-    let count = part[cells..cells + 1024]
-        .iter()
-        .filter(|&&cell| cell >> right & 1 == 1)
-        .count();
+    let part =
+        file::read(&part(file, without)).map_err(|refusal| format!("a part of {refusal}"))?;
+    let cells = part.matrix.cells.iter();
+    let count = cells.filter(|&&cell| cell >> right & 1 == 1).count();
     let of = if without.is_empty() {
         ""
     } else {

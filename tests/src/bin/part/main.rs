@@ -12,6 +12,7 @@ mod cases;
 mod refusals;
 
 use reference::brute::{exhausted, Found, Search};
+use reference::desk::BUFFER;
 use reference::file;
 use reference::generate::*;
 use reference::judge::{Account, SAFE, UNSAFE};
@@ -328,7 +329,7 @@ fn nobody(group: &mut Group, library: Library, judge: Judge, random: &mut Random
     let mut counts = Counts::default();
     while group.inputs < 6_000 {
         let (file, right, length) = match group.inputs % 4 {
-            0 => (wrong_file(random).0, random.below(10) as u8, 40_000),
+            0 => (wrong_file(random).0, random.below(16) as u8, BUFFER),
             1 => {
                 let mut draft = small(random);
                 let length = obstruct(random, &mut draft).0;
@@ -339,7 +340,7 @@ fn nobody(group: &mut Group, library: Library, judge: Judge, random: &mut Random
                     true => chain(random),
                     false => large(random),
                 };
-                (draft.file(), right, 40_000)
+                (draft.file(), right, BUFFER)
             }
             _ => {
                 let file = small(random).file();

@@ -2,7 +2,7 @@
 //! held or removed, `make` at the same lock, no room, links and what cannot be
 //! replaced. Argument: the seed.
 
-use reference::file::check;
+use reference::file::{check, RIGHTS};
 use reference::generate::{rule, Draft, CREATE_SUBJECT};
 use reference::random::Random;
 use reference::report::{Arguments, Group, Report};
@@ -231,8 +231,8 @@ fn held(scene: &Scene, group: &mut Group) {
 
 /// A house file whose length is a whole number of steps.
 fn house_of_steps() -> Vec<u8> {
-    let mut draft = Draft::empty(8);
-    for _ in 0..2 {
+    let mut draft = Draft::empty(RIGHTS);
+    while !draft.file().len().is_multiple_of(5) {
         draft.rules.push(rule(1, &[], &[[CREATE_SUBJECT, 0, 0, 0]]));
     }
     let file = draft.file();

@@ -1,6 +1,7 @@
 //! Sheets by hand, one or more for each sentence of request C-17.
 
 use super::compare::{compare, Library};
+use reference::desk::BUFFER;
 use reference::generate::*;
 use reference::random::Random;
 use reference::report::{hex, Group, Report};
@@ -174,7 +175,7 @@ fn entries_and_parts() -> Vec<Case> {
         answered(&[0, 1, 0, 1, 1, 0, 1], &[], 7 * NEEDED + 6),
         answered(&[1, 0, 1, 1, 0, 0, 1, 1], &[], 8 * NEEDED),
         answered(&[1, 1, 1, 1, 1, 1, 1, 1], &[], 8 * NEEDED + 7),
-        answered(&[1, 1, 1, 1, 1, 1, 1, 1], &[], 8 * 39_700),
+        answered(&[1, 1, 1, 1, 1, 1, 1, 1], &[], 8 * BUFFER),
         // Bytes that make no whole entry stay, and are none.
         answered(&[1], &[1], NEEDED),
         answered(&[1, 0], &[1, 8], 2 * NEEDED),
@@ -283,15 +284,17 @@ fn bad_files() -> Vec<Case> {
     let rights = [1, 2, 255];
     [
         (Vec::new(), 1),
-        (with(0, 9), 2),
+        (with(0, 13), 2),
         (with(1, 1), 3),
         (good[..100].to_vec(), 4),
-        (with(1_078, 2), 5),
+        (with(2_104, 2), 5),
         (with(18, 3), 6),
         (with(50, 4), 7),
-        (with(1_075, 4), 44),
-        (with(1_076, 5), 8),
-        (with(1_079, 2), 9),
+        (with(51, 1), 7),
+        (with(2_100, 4), 44),
+        (with(2_101, 128), 44),
+        (with(2_102, 5), 8),
+        (with(2_105, 2), 9),
     ]
     .into_iter()
     .flat_map(|(file, code)| {
