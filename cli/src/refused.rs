@@ -91,7 +91,7 @@ fn of_before(file: &[u8], refusal: u8) -> Option<String> {
     let cells = refusal == 5 && number(&file[length..length + 2]) == NAMES * NAMES;
     cells.then(|| {
         "this is a file of the earlier format, whose cells have one byte: make it again from its \
-         table, or from what the show of the earlier program prints"
+         table, or from what tugcaphi show of the earlier version prints"
             .to_string()
     })
 }

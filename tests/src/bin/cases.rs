@@ -213,7 +213,7 @@ fn main() {
         runs_by_hand(group, carried::played());
     });
 
-    report.group("twelve rights: files by hand", 3_000, |group| {
+    report.group("twelve rights: files by hand", 2_900, |group| {
         for case in twelve::checked() {
             let answers = [file::check, second::check].map(|check| check(&case.file));
             group.input(answers == [case.refusal; 2], || {

@@ -54,14 +54,30 @@ fn with_rules(random: &mut Random, least: usize) -> Draft {
 /// The carries (requests C-19 and C-21): every pair of bytes of them with every g,
 /// their length on both sides, and what comes before them and behind.
 fn carries(report: &mut Report, reader: &mut Reader) {
-    report.group("44: every set that a right carries", 700_000, |group| {
-        for rights in 1..=RIGHTS {
+    // The number of rights on both sides of a byte's eight, and the largest.
+    let rights = [1, 8, 9, RIGHTS - 1, RIGHTS];
+    report.group("44: every set that a right carries", 320_000, |group| {
+        for rights in rights {
             let mut file = Draft::empty(rights).file();
             let end = file.len();
             for carried in 0..=Set::MAX {
                 let within = carried < 1 << rights;
                 file[end - SET_BYTES..].copy_from_slice(&carried.to_le_bytes());
                 reader.expect(group, &file, if within { 0 } else { 44 });
+            }
+        }
+    });
+    report.group("7: every set in a cell", 320_000, |group| {
+        for rights in rights {
+            let mut draft = Draft::empty(rights);
+            draft.kinds[31] = 2;
+            let mut file = draft.file();
+            // The last cell, in the one row and the one column that there are.
+            let end = file.len() - SET_BYTES * rights as usize;
+            for cell in 0..=Set::MAX {
+                let within = cell < 1 << rights;
+                file[end - SET_BYTES..end].copy_from_slice(&cell.to_le_bytes());
+                reader.expect(group, &file, if within { 0 } else { 7 });
             }
         }
     });
@@ -448,7 +464,7 @@ fn main() {
         reader.expect(group, &base(rule(2, &[[1, 1, 2]], &[[1, 0, 0, 0]])), 9);
     });
 
-    report.group("twelve rights: files by hand", 3_000, |group| {
+    report.group("twelve rights: files by hand", 2_900, |group| {
         for case in twelve::checked() {
             reader.expect(group, &case.file, case.refusal);
         }
