@@ -678,7 +678,11 @@ fn small_rule(random: &mut Random, rights: u8, kind: u8, right: u8, cells: &[Set
 /// and some are carried; no rule names them, and they carry none.
 pub fn renumbered(random: &mut Random, draft: &Draft) -> (Draft, Vec<u8>) {
     let old = usize::from(draft.rights);
-    let rights = random.between(old, usize::from(RIGHTS));
+    let most = usize::from(RIGHTS);
+    let rights = match random.percent(60) {
+        true => most,
+        false => random.between(old, most),
+    };
     let mut numbers: Vec<u8> = (0..rights as u8).collect();
     random.shuffle(&mut numbers);
     let others = numbers.split_off(old);

@@ -179,11 +179,12 @@ fn brute(
 ) {
     let mut mix = Mix::default();
     let mut searched = Searched::default();
+    let mut high = 0;
     while group.inputs < 12_000 {
         let mut draft = small(random);
         let list = left_out(random, &mut draft);
-        let file = draft.file();
-        let right = if random.percent(80) {
+        let mut file = draft.file();
+        let mut right = if random.percent(80) {
             0
         } else {
             draft.rights - 1
@@ -192,6 +193,12 @@ fn brute(
         let Some(found) = searched.add(random, exhausted(&start, right, LIMIT)) else {
             continue;
         };
+        // The rights' numbers change nothing.
+        if random.percent(50) {
+            let (other, numbers) = renumbered(random, &draft);
+            (file, right) = (other.file(), numbers[usize::from(right)]);
+            high += u64::from(right >= 8);
+        }
         let wanted = if found == Found::Leak { UNSAFE } else { SAFE };
         let question = Question::new(&file, right).without(&list);
         let (account, answer) = beside(group, library, judge, random, question, &mut mix);
@@ -202,6 +209,9 @@ fn brute(
     }
     mix.demand(group, [3_000, 1_000, 500, 500, 1_000, 1_000]);
     searched.demand(group);
+    group.demand(high >= 1_000, || {
+        format!("only {high} of a right from 8 on")
+    });
 }
 
 /// What the brute searches came by.

@@ -2,6 +2,7 @@
 
 use super::compare::{compare, Library};
 use reference::desk::BUFFER;
+use reference::file::RIGHTS;
 use reference::generate::*;
 use reference::random::Random;
 use reference::report::{hex, Group, Report};
@@ -75,7 +76,40 @@ fn all() -> Vec<Case> {
     all.extend(bad_files());
     all.extend(counts());
     all.extend(carried());
+    all.extend(twelve());
     all
+}
+
+/// Twelve rights (request C-21), each asked for on a sheet: right 8 lets 11 in, and 0
+/// would let 4 in.
+fn twelve() -> Vec<Case> {
+    let mut draft = Draft::empty(RIGHTS);
+    draft.kinds[0] = 2;
+    draft.put(0, 0, 8);
+    draft.rules = vec![
+        rule(1, &[[8, 0, 0]], &[[ENTER, 11, 0, 0]]),
+        rule(1, &[[0, 0, 0]], &[[ENTER, 4, 0, 0]]),
+    ];
+    // 5 × (12 × 2 × 3 + 4) bytes are needed.
+    let length = 380;
+    let step = vec![0, 0, X, X, X];
+    vec![Case {
+        file: draft.file(),
+        entries: sheet(&[3, 11, 12, 4, 8]),
+        length: 5 * length,
+        code: 0,
+        answered: [
+            [3, 0, 1, 0],
+            [11, UNSAFE, 1, 0],
+            [12, 21, 0, 0],
+            [4, 0, 1, 0],
+            [8, 0, 1, 0],
+        ]
+        .concat(),
+        written: [0, 1, 3, 4]
+            .map(|number| (number * length, step.clone()))
+            .to_vec(),
+    }]
 }
 
 /// Rights that carry others (request C-19), whichever entry asks: 1 carries 0, and
