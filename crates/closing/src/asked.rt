@@ -92,22 +92,31 @@ fn lacking_in<'a>(
     mask
 }
 
-// The commands that ask in one of the four cells of s and o for a right that no right in it carries.
+// Commands that ask in one of the four cells of s and o for a right that no right in it carries: all of them, or as many as leave none of the mask `which`.
 pub fn lacking_at<'a>(
     asks: &'a [u32; 4 * Matrix::RIGHTS as usize],
     carriers: &'a [Set; Matrix::RIGHTS as usize],
     cells: &'a [Set; Matrix::NAMES * Matrix::NAMES],
+    which: u32,
     s: usize,
     o: usize,
 ) -> u32
     requires { ⌜ (s < names) × (o < names) ⌝ }
     ensures { λ r. ⌜ LackingAt (now (asks .entry)) (now (carriers .entry)) (now (cells .entry)) s o r ⌝ }
 {
-    let a = lacking_in(asks, carriers, 0, cells[Matrix::NAMES * s + s]);
-    let b = lacking_in(asks, carriers, 1, cells[Matrix::NAMES * s + o]);
-    let c = lacking_in(asks, carriers, 2, cells[Matrix::NAMES * o + s]);
-    let d = lacking_in(asks, carriers, 3, cells[Matrix::NAMES * o + o]);
-    (a | b) | (c | d)
+    let cell = lacking_in(asks, carriers, 1, cells[Matrix::NAMES * s + o]);
+    if left(which, cell) == 0 {
+        return cell;
+    }
+    let row = cell | lacking_in(asks, carriers, 0, cells[Matrix::NAMES * s + s]);
+    if left(which, row) == 0 {
+        return row;
+    }
+    let column = row | lacking_in(asks, carriers, 3, cells[Matrix::NAMES * o + o]);
+    if left(which, column) == 0 {
+        return column;
+    }
+    column | lacking_in(asks, carriers, 2, cells[Matrix::NAMES * o + s])
 }
 
 // The commands of the mask that are not lacking.
