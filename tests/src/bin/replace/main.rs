@@ -200,7 +200,7 @@ fn make_waits(scene: &Scene, group: &mut Group) {
     let answer = waits(group, scene.command(&words), &|| {
         lock.unlock().expect("our lock")
     });
-    let made = answer.status == Some(0) && scene.read(FILE).len() == 1_071;
+    let made = answer.status == Some(0) && scene.read(FILE).len() == 2_096;
     let kept = scene.mode(FILE) == 0o600 && scene.names() == [FILE, "words"];
     group.input(made && kept, || format!("make, after waiting: {answer:?}"));
 }
