@@ -21,15 +21,22 @@
 #include <stdio.h>
 #include <string.h>
 
-enum { KINDS = 18, CELLS = KINDS + 32, CARRIES = CELLS + 1024, RULE = CARRIES + 2, LENGTH = RULE + 10 };
+enum {
+    SET = TUGCAPHI_SET,
+    KINDS = 18,
+    CELLS = KINDS + 32,
+    CARRIES = CELLS + 32 * 32 * SET,
+    RULE = CARRIES + 2 * SET,
+    LENGTH = RULE + 10
+};
 
 static void table(uint8_t file[LENGTH])
 {
     static const uint8_t head[KINDS] = {
         2, 4,                             /* rights, pairs */
         KINDS, 0, 32, 0,                  /* kinds: where, how long; low byte first */
-        CELLS, 0, 0, 4,                   /* cells */
-        CARRIES & 255, CARRIES >> 8, 2, 0, /* carries */
+        CELLS, 0, 0, 8,                   /* cells */
+        CARRIES & 255, CARRIES >> 8, 4, 0, /* carries */
         RULE & 255, RULE >> 8, 10, 0,     /* rule 0 */
     };
     static const uint8_t rule[10] = {
@@ -42,8 +49,9 @@ static void table(uint8_t file[LENGTH])
     file[KINDS + 0] = 2;
     file[KINDS + 1] = 2;
     file[KINDS + 2] = 1;
-    file[CELLS + 32 * 0 + 2] = 1 << 0;
-    file[CARRIES + 0] = 1 << 1;
+    /* Rights below 8 are in the low byte of a set, which comes first. */
+    file[CELLS + SET * (32 * 0 + 2)] = 1 << 0;
+    file[CARRIES + SET * 0] = 1 << 1;
     memcpy(file + RULE, rule, sizeof rule);
 }
 
@@ -53,9 +61,10 @@ int main(void)
     static uint8_t sheet[2 * TUGCAPHI_ENTRY] = {0, 0, 0, 0, 1, 0, 0, 0};
     static const uint8_t both[2 * TUGCAPHI_CELL] = {1, 0, 2, 1, 1, 2}, none[TUGCAPHI_CELL] = {0, 1, 2};
     const uint8_t right = 1, ada = 0;
-    const uint8_t *cell = file + CELLS + 32 * 0 + 2;
+    const uint8_t *cell = file + CELLS + SET * (32 * 0 + 2);
     uint64_t count, at;
-    uint8_t answer, before;
+    uint8_t answer;
+    int before;
 
     table(file);
     if ((answer = access_check(file, LENGTH)) != TUGCAPHI_ACCEPTED) {
@@ -90,9 +99,9 @@ int main(void)
     answer = access_replay(file, LENGTH, steps, TUGCAPHI_STEP * count, right, &at);
     printf(answer == TUGCAPHI_LEAK ? "replayed: leaks at step %d\n" : "replayed: no leak\n", (int)at);
 
-    before = *cell;
+    before = cell[0] + 256 * cell[1];
     if (access_run(file, LENGTH, steps[0], steps[1], steps[2], steps[3], steps[4]) == TUGCAPHI_DONE)
-        printf("run: cell (0, 2) held %d, and holds %d\n", before, *cell);
+        printf("run: cell (0, 2) held %d, and holds %d\n", before, cell[0] + 256 * cell[1]);
 
     /* Ben has neither right 1 nor right 0, which carries it. */
     printf("run with names 1 0 2: refused %d\n", access_run(file, LENGTH, 0, 1, 0, 2, 255));

@@ -68,21 +68,28 @@ extern "C" {
 #define TUGCAPHI_ENTRIES 8
 
 /*
- * A buffer of so many bytes is long enough for every call that takes one, whatever the file: 5 * (8 * 31 * 32 + 4). A sheet
- * needs so many for each entry.
+ * A house file has at most so many rights. A set of rights, a cell of the file or what a right carries, is a number of so many
+ * bytes, low byte first, in which right i counts 2 to the power i.
  */
-#define TUGCAPHI_BUFFER 39700
+#define TUGCAPHI_RIGHTS 12
+#define TUGCAPHI_SET 2
 
 /*
- * Bytes of stack that are enough for each call. This is measured and not proved: access_check used about 6,100 bytes, access_run
- * 8,300, access_replay 7,200, access_judge 41,800, access_judge_part 41,600, access_sheet 45,900, access_need 22,300. Each ran in
+ * A buffer of so many bytes is long enough for every call that takes one, whatever the file: 59,540. A sheet needs so many for
+ * each entry.
+ */
+#define TUGCAPHI_BUFFER (TUGCAPHI_STEP * (TUGCAPHI_RIGHTS * 31 * 32 + 4))
+
+/*
+ * Bytes of stack that are enough for each call. This is measured and not proved: access_check used about 8,200 bytes, access_run
+ * 12,400, access_replay 13,800, access_judge 60,400, access_judge_part 62,500, access_sheet 66,600, access_need 30,200. Each ran in
  * a thread whose stack of 1 MiB was painted with a pattern before, and what had lost its paint afterwards was counted, less what
  * an idle thread uses; on 60 generated files, for all rights, access_judge_part with none, some and all of
  * the names listed, access_sheet with 0, 1 and 8 entries, access_need with lists of 0, 1 and 8 cells. The files made no
  * difference: the calls hold arrays of fixed size alone, and recur at most once for each blank of a rule. The tests measure it
  * again, and fail above this number.
  */
-#define TUGCAPHI_STACK 65536
+#define TUGCAPHI_STACK 98304
 
 /*
  * Whether a file is accepted: 0, or the refusal of whoever wrote it, 1 to 9 or 44.

@@ -1,12 +1,13 @@
 //! The benchmark's tables, by family. All are made from one seed.
 
 use crate::pruned;
-use crate::table::{Answer, Table};
-use reference::file;
+use crate::table::{listing, Answer, Table};
+use reference::file::{self, RIGHTS};
 use reference::generate::{
     rule, Draft, CREATE_OBJECT, CREATE_SUBJECT, DELETE, DESTROY_OBJECT, DESTROY_SUBJECT, ENTER,
 };
 use reference::random::Random;
+use reference::twelve::fullest;
 
 pub struct Sample {
     pub family: &'static str,
@@ -26,6 +27,16 @@ impl Sample {
             right,
             same: None,
         }
+    }
+
+    /// What the judge finds, and what the desk program must print.
+    pub fn answer(&self) -> (Answer, String) {
+        let judged = self.same.as_ref().unwrap_or(&self.draft);
+        let contents = file::read(&judged.file()).expect("an accepted file");
+        let table = Table::new(&contents);
+        let answer = pruned::judge(&table, 1 << self.right);
+        let wanted = listing(&table, &answer);
+        (answer, wanted)
     }
 }
 
@@ -165,95 +176,126 @@ fn wanted_with(
     panic!("no such table in 200");
 }
 
-const LINK: u8 = 7;
-const END: u8 = 6;
+/// Names 0 to `names` - 1, subjects all, through which tokens walk: the last right
+/// links each name to the one below, the right before it marks the last name and the
+/// first.
+#[derive(Clone, Copy)]
+struct Walk {
+    rights: u8,
+    names: usize,
+}
 
-/// Names 0 to `names` - 1, subjects all; right 7 links each to the one below,
-/// right 6 marks the last and the first.
-fn descending(names: usize) -> Draft {
-    let mut draft = Draft::empty(8);
-    for name in 0..names {
-        draft.kinds[name] = 2;
+impl Walk {
+    fn link(self) -> u8 {
+        self.rights - 1
     }
-    for name in 1..names {
-        draft.put(name, name - 1, LINK);
+
+    fn end(self) -> u8 {
+        self.rights - 2
     }
-    draft.put(0, names - 1, END);
-    draft
+
+    fn draft(self) -> Draft {
+        let mut draft = Draft::empty(self.rights);
+        for name in 0..self.names {
+            draft.kinds[name] = 2;
+        }
+        for name in 1..self.names {
+            draft.put(name, name - 1, self.link());
+        }
+        draft.put(0, self.names - 1, self.end());
+        draft
+    }
+}
+
+/// Eight rights, and so many names.
+fn eight(names: usize) -> Walk {
+    Walk { rights: 8, names }
+}
+
+/// As many rights as there can be, and so many names.
+fn twelve(names: usize) -> Walk {
+    Walk {
+        rights: RIGHTS,
+        names,
+    }
 }
 
 /// A token right walks down the diagonal, a round a step, since the place that
 /// uses a step lies before it; then comes the next token.
-fn diagonal(names: usize, tokens: u8) -> (Draft, u8) {
-    let mut draft = descending(names);
-    draft.put(names - 1, names - 1, 0);
+fn diagonal(walk: Walk, tokens: u8) -> (Draft, u8) {
+    let (link, end) = (walk.link(), walk.end());
+    let mut draft = walk.draft();
+    draft.put(walk.names - 1, walk.names - 1, 0);
     for token in (0..tokens).rev() {
-        let hand_over = [[token, 0, 0], [END, 0, 1]];
-        let entered = if token + 1 < tokens { token + 1 } else { LINK };
+        let hand_over = [[token, 0, 0], [end, 0, 1]];
+        let entered = if token + 1 < tokens { token + 1 } else { link };
         draft
             .rules
             .push(rule(2, &hand_over, &[[ENTER, entered, 1, 1]]));
-        let walk = [[token, 0, 0], [LINK, 0, 1]];
+        let walk = [[token, 0, 0], [link, 0, 1]];
         draft.rules.push(rule(2, &walk, &[[ENTER, token, 1, 1]]));
     }
-    (draft, LINK)
+    (draft, link)
 }
 
 /// A token right walks through all cells, row by row and each row downwards,
 /// a round a step: `tokens` x `names` x `names` rounds. At the end of it all
 /// the linking right leaks, or nothing does.
-fn grid(names: usize, tokens: u8, leaks: bool) -> (Draft, u8) {
-    let mut draft = descending(names);
-    draft.put(names - 1, names - 1, 0);
+fn grid(walk: Walk, tokens: u8, leaks: bool) -> (Draft, u8) {
+    let (link, end) = (walk.link(), walk.end());
+    let mut draft = walk.draft();
+    draft.put(walk.names - 1, walk.names - 1, 0);
     for token in (0..tokens).rev() {
         if token + 1 < tokens || leaks {
-            let entered = if token + 1 < tokens { token + 1 } else { LINK };
-            let hand_over = [[token, 0, 0], [END, 0, 1]];
+            let entered = if token + 1 < tokens { token + 1 } else { link };
+            let hand_over = [[token, 0, 0], [end, 0, 1]];
             draft
                 .rules
                 .push(rule(2, &hand_over, &[[ENTER, entered, 1, 1]]));
         }
         // From the end (a,c) of row a to the beginning (b,d) of row b.
-        let next_row = [[token, 0, 2], [END, 2, 3], [LINK, 0, 1]];
+        let next_row = [[token, 0, 2], [end, 2, 3], [link, 0, 1]];
         draft
             .rules
             .push(rule(4, &next_row, &[[ENTER, token, 1, 3]]));
-        let walk = [[token, 0, 1], [LINK, 1, 2]];
+        let walk = [[token, 0, 1], [link, 1, 2]];
         draft.rules.push(rule(3, &walk, &[[ENTER, token, 0, 2]]));
     }
-    (draft, LINK)
+    (draft, link)
 }
 
 /// The same with rules that are allowed at thousands of places in each round
 /// once the first token has been everywhere, and are useful at none.
-fn ballast(names: usize, tokens: u8) -> (Draft, u8) {
-    let (mut draft, right) = grid(names, tokens, true);
-    let conditions = [[0, 0, 1], [0, 1, 2], [0, 2, 3], [END, 3, 0]];
+fn ballast(walk: Walk, tokens: u8) -> (Draft, u8) {
+    let (mut draft, right) = grid(walk, tokens, true);
+    let end = walk.end();
+    let conditions = [[0, 0, 1], [0, 1, 2], [0, 2, 3], [end, 3, 0]];
     while draft.rules.len() < 24 {
         draft
             .rules
-            .push(rule(4, &conditions, &[[ENTER, END, 3, 0]]));
+            .push(rule(4, &conditions, &[[ENTER, end, 3, 0]]));
     }
     (draft, right)
 }
 
 /// A token right walks through the columns, in all rows at once: a round is a
 /// step in each row.
-fn columns(names: usize, tokens: u8) -> (Draft, u8) {
-    let mut draft = descending(names);
-    for name in 0..names {
-        draft.put(name, names - 1, 0);
+fn columns(walk: Walk, tokens: u8) -> (Draft, u8) {
+    let (link, end) = (walk.link(), walk.end());
+    let mut draft = walk.draft();
+    for name in 0..walk.names {
+        draft.put(name, walk.names - 1, 0);
     }
     for token in (0..tokens).rev() {
-        let entered = if token + 1 < tokens { token + 1 } else { LINK };
-        let hand_over = [[token, 0, 1], [END, 1, 2]];
+        let entered = if token + 1 < tokens { token + 1 } else { link };
+        let hand_over = [[token, 0, 1], [end, 1, 2]];
         draft
             .rules
             .push(rule(3, &hand_over, &[[ENTER, entered, 0, 2]]));
-        let walk = [[token, 0, 1], [LINK, 1, 2]];
+        let walk = [[token, 0, 1], [link, 1, 2]];
         draft.rules.push(rule(3, &walk, &[[ENTER, token, 0, 2]]));
     }
-    (draft, LINK)
+    (draft, link)
 }
 
 /// The same with rules that cost much to search, and do nothing: most rounds
@@ -285,46 +327,54 @@ fn vain((mut draft, right): (Draft, u8), tokens: u8) -> (Draft, u8) {
     (draft, right)
 }
 
-/// Right 0 is in all cells and can be deleted everywhere, by the last of 16
-/// rules; it can be entered again in the last cell only, or nowhere.
-fn closing(names: usize, blanks: u8, leaks: bool) -> (Draft, u8) {
-    let mut draft = Draft::empty(4);
+/// The first of the last four rights is in all cells and can be deleted everywhere,
+/// by the last of 16 rules; it can be entered again in the last cell only, or
+/// nowhere.
+fn closing(Walk { rights, names }: Walk, blanks: u8, leaks: bool) -> (Draft, u8) {
+    let [goes, stays, nowhere, mark] = [4, 3, 2, 1].map(|from_last| rights - from_last);
+    let mut draft = Draft::empty(rights);
     for s in 0..names {
         draft.kinds[s] = 2;
         for o in 0..names {
-            draft.put(s, o, 0);
-            draft.put(s, o, 1);
+            draft.put(s, o, goes);
+            draft.put(s, o, stays);
         }
     }
     if leaks {
-        draft.put(names - 1, names - 1, 3);
+        draft.put(names - 1, names - 1, mark);
     }
     let last = blanks - 1;
     for number in 0..16 {
-        // Right 2 is nowhere: only the last delete has all that it asks for.
-        let asked = if number == 15 { 1 } else { 2 };
-        let conditions = [[1, 0, last], [0, last, 1], [asked, 1, 0]];
+        // Only the last delete has all that it asks for.
+        let asked = if number == 15 { stays } else { nowhere };
+        let conditions = [[stays, 0, last], [goes, last, 1], [asked, 1, 0]];
         draft
             .rules
-            .push(rule(blanks, &conditions, &[[DELETE, 0, 0, 1]]));
-        let conditions = [[1, 1, last], [0, last, last], [3, 0, 1]];
+            .push(rule(blanks, &conditions, &[[DELETE, goes, 0, 1]]));
+        let conditions = [[stays, 1, last], [goes, last, last], [mark, 0, 1]];
         draft
             .rules
-            .push(rule(blanks, &conditions, &[[ENTER, 0, 0, 1]]));
+            .push(rule(blanks, &conditions, &[[ENTER, goes, 0, 1]]));
     }
-    (draft, 0)
+    (draft, goes)
+}
+
+/// Four rights, and so many names.
+fn four(names: usize) -> Walk {
+    Walk { rights: 4, names }
 }
 
 /// The walk through all cells by links that are carried: right 3 stands in their
 /// cells, and carries the linking right through rights 4 and 5.
-fn carried_links(names: usize) -> (Draft, u8) {
-    let (mut draft, right) = grid(names, 3, true);
+fn carried_links(walk: Walk) -> (Draft, u8) {
+    let link = walk.link();
+    let (mut draft, right) = grid(walk, 3, true);
     for cell in &mut draft.cells {
-        if *cell >> LINK & 1 == 1 {
-            *cell = *cell & !(1 << LINK) | 1 << 3;
+        if *cell >> link & 1 == 1 {
+            *cell = *cell & !(1 << link) | 1 << 3;
         }
     }
-    for (one, other) in [(3, 4), (4, 5), (5, LINK)] {
+    for (one, other) in [(3, 4), (4, 5), (5, link)] {
         draft.carry(one, other);
     }
     (draft, right)
@@ -332,36 +382,37 @@ fn carried_links(names: usize) -> (Draft, u8) {
 
 /// The walk by tokens that are carried: what is tested is right 0, 2 or 4, and
 /// what is entered is the one above it, which carries it.
-fn carried_tokens(names: usize, leaks: bool) -> (Draft, u8) {
-    let mut draft = descending(names);
-    draft.put(names - 1, names - 1, 0);
+fn carried_tokens(walk: Walk, leaks: bool) -> (Draft, u8) {
+    let (link, end) = (walk.link(), walk.end());
+    let mut draft = walk.draft();
+    draft.put(walk.names - 1, walk.names - 1, 0);
     for token in [4, 2, 0] {
-        let handed = if token < 4 { token + 2 } else { LINK };
+        let handed = if token < 4 { token + 2 } else { link };
         if token < 4 || leaks {
-            let hand_over = [[token, 0, 0], [END, 0, 1]];
+            let hand_over = [[token, 0, 0], [end, 0, 1]];
             draft
                 .rules
                 .push(rule(2, &hand_over, &[[ENTER, handed, 1, 1]]));
         }
-        let next_row = [[token, 0, 2], [END, 2, 3], [LINK, 0, 1]];
+        let next_row = [[token, 0, 2], [end, 2, 3], [link, 0, 1]];
         draft
             .rules
             .push(rule(4, &next_row, &[[ENTER, token + 1, 1, 3]]));
-        let walk = [[token, 0, 1], [LINK, 1, 2]];
+        let walk = [[token, 0, 1], [link, 1, 2]];
         draft
             .rules
             .push(rule(3, &walk, &[[ENTER, token + 1, 0, 2]]));
         draft.carry(token + 1, token);
     }
-    (draft, LINK)
+    (draft, link)
 }
 
 /// The closing search with what goes carried by what stays.
-fn carried_closing(names: usize, blanks: u8, leaks: bool) -> (Draft, u8) {
-    let (mut draft, right) = closing(names, blanks, leaks);
-    draft.carry(1, 0);
-    draft.carry(3, 1);
-    (draft, right)
+fn carried_closing(walk: Walk, blanks: u8, leaks: bool) -> (Draft, u8) {
+    let (mut draft, goes) = closing(walk, blanks, leaks);
+    draft.carry(goes + 1, goes);
+    draft.carry(goes + 3, goes + 1);
+    (draft, goes)
 }
 
 /// Tables with rights that carry others.
@@ -382,10 +433,55 @@ fn carried(random: &mut Random) -> Vec<Sample> {
         Sample::new("carries", "large", table(&LARGE, &few, &rounds)),
         Sample::new("carries", "chain", table(&CARRIED, &chain, &rounds)),
         Sample::new("carries", "cycle", table(&CARRIED, &cycle, &safe)),
-        Sample::new("carries", "links", carried_links(30)),
-        Sample::new("carries", "tokens", carried_tokens(30, true)),
-        Sample::new("carries", "safe", carried_tokens(30, false)),
-        Sample::new("carries", "closing", carried_closing(30, 4, true)),
+        Sample::new("carries", "links", carried_links(eight(30))),
+        Sample::new("carries", "tokens", carried_tokens(eight(30), true)),
+        Sample::new("carries", "safe", carried_tokens(eight(30), false)),
+        Sample::new("carries", "closing", carried_closing(four(30), 4, true)),
+    ]
+}
+
+/// Tables of twelve rights, the like of those of eight; the last one has the most
+/// steps that there can be.
+fn of_twelve(random: &mut Random) -> Vec<Sample> {
+    let by_rounds = |answer: &Answer| answer.is_unsafe && answer.steps.len() >= 5;
+    let safe = |answer: &Answer| !answer.is_unsafe && answer.steps.len() >= 10;
+    let rounds = |answer: &Answer| !answer.is_unsafe && answer.rounds >= 4;
+    let late = |answer: &Answer| answer.is_unsafe && answer.steps.len() >= 500;
+    let typical = Shape {
+        rights: RIGHTS,
+        ..TYPICAL
+    };
+    let large = Shape {
+        rights: RIGHTS,
+        ..LARGE
+    };
+    // A chain of all rights but the one asked for, from byte to byte of a set and back.
+    let order = [1, 9, 2, 10, 3, 11, 4, 8, 5, 7, 6];
+    let chain: Vec<(u8, u8)> = order.windows(2).map(|link| (link[0], link[1])).collect();
+    let carried = Shape {
+        rights: RIGHTS,
+        ..CARRIED
+    };
+    let mut table = |shape, carries, is_wanted: &dyn Fn(&Answer) -> bool| {
+        wanted_with(random, shape, carries, is_wanted)
+    };
+    vec![
+        Sample::new("twelve", "typical", table(&typical, &[], &safe)),
+        Sample::new("twelve", "unsafe", table(&typical, &[], &by_rounds)),
+        Sample::new("twelve", "large", table(&large, &[], &safe)),
+        Sample::new("twelve", "rounds", table(&large, &[], &rounds)),
+        Sample::new("twelve", "late", table(&large, &[], &late)),
+        Sample::new("twelve", "carries", table(&carried, &chain, &safe)),
+        Sample::new("twelve", "2700", grid(twelve(30), 3, true)),
+        Sample::new("twelve", "9000", grid(twelve(30), 10, true)),
+        Sample::new("twelve", "9000-safe", grid(twelve(30), 10, false)),
+        Sample::new("twelve", "links", carried_links(twelve(30))),
+        Sample {
+            same: Some(grid(twelve(30), 6, true).0),
+            ..Sample::new("twelve", "deep", deep(grid(twelve(30), 6, true), 6))
+        },
+        Sample::new("twelve", "closing", closing(twelve(30), 4, true)),
+        Sample::new("twelve", "most", fullest()),
     ]
 }
 
@@ -406,27 +502,28 @@ pub fn all(seed: u64) -> Vec<Sample> {
         samples.push(Sample::new(family, "unsafe", wanted(random, shape, late)));
     }
     samples.extend([
-        Sample::new("chain", "145", diagonal(29, 5)),
-        Sample::new("chain", "400", grid(20, 1, true)),
-        Sample::new("chain", "900", grid(30, 1, false)),
-        Sample::new("chain", "2700", grid(30, 3, true)),
-        Sample::new("chain", "5400", grid(30, 6, true)),
-        Sample::new("chain", "5400-safe", grid(30, 6, false)),
-        Sample::new("chain", "ballast", ballast(30, 6)),
+        Sample::new("chain", "145", diagonal(eight(29), 5)),
+        Sample::new("chain", "400", grid(eight(20), 1, true)),
+        Sample::new("chain", "900", grid(eight(30), 1, false)),
+        Sample::new("chain", "2700", grid(eight(30), 3, true)),
+        Sample::new("chain", "5400", grid(eight(30), 6, true)),
+        Sample::new("chain", "5400-safe", grid(eight(30), 6, false)),
+        Sample::new("chain", "ballast", ballast(eight(30), 6)),
         // The rules that they have besides do nothing.
         Sample {
-            same: Some(grid(30, 6, true).0),
-            ..Sample::new("worst", "deep", deep(grid(30, 6, true), 6))
+            same: Some(grid(eight(30), 6, true).0),
+            ..Sample::new("worst", "deep", deep(grid(eight(30), 6, true), 6))
         },
         // So many steps a round that the next one searches all places.
         Sample {
-            same: Some(columns(30, 6).0),
-            ..Sample::new("worst", "broad", vain(columns(30, 6), 6))
+            same: Some(columns(eight(30), 6).0),
+            ..Sample::new("worst", "broad", vain(columns(eight(30), 6), 6))
         },
-        Sample::new("closing", "3-blanks", closing(30, 3, true)),
-        Sample::new("closing", "4-blanks", closing(30, 4, true)),
-        Sample::new("closing", "safe", closing(30, 4, false)),
+        Sample::new("closing", "3-blanks", closing(four(30), 3, true)),
+        Sample::new("closing", "4-blanks", closing(four(30), 4, true)),
+        Sample::new("closing", "safe", closing(four(30), 4, false)),
     ]);
     samples.extend(carried(random));
+    samples.extend(of_twelve(random));
     samples
 }

@@ -8,8 +8,8 @@
 use bench::families::{all, Sample};
 use bench::measure::{fail, instructions, millions, over, run, seconds, time, times, Run};
 use bench::pressing::{self, Pressing};
-use bench::table::{listing, Answer, Table};
-use bench::{logic, pruned, sheets};
+use bench::table::Answer;
+use bench::{before, logic, sheets};
 use reference::file;
 use std::collections::BTreeMap;
 use std::env;
@@ -148,6 +148,18 @@ fn main() {
     match env::var("BENCH_ONLY").as_deref() {
         Ok("press") => return tell(pressing::print(&pressing, &samples), pressing::REACHED),
         Ok("sheet") => return tell(sheets::print(&pressing, &samples), sheets::REACHED),
+        Ok("before") => {
+            let Some(program) = env::var_os("BENCH_BEFORE").map(PathBuf::from) else {
+                fail("BENCH_BEFORE is the desk program of before");
+            };
+            let programs = before::Programs {
+                folder,
+                before: &program,
+                now: desk,
+                limit: bench.limit,
+            };
+            return tell(before::print(&programs, &samples), before::REACHED);
+        }
         _ => {}
     }
     // What starting takes: the empty input.
@@ -176,13 +188,7 @@ fn main() {
     for sample in &samples {
         let bytes = sample.draft.file();
         let contents = file::read(&bytes).expect("an accepted file");
-        let judged = sample
-            .same
-            .as_ref()
-            .map_or(bytes.clone(), |same| same.file());
-        let table = Table::new(&file::read(&judged).expect("an accepted file"));
-        let answer = pruned::judge(&table, 1 << sample.right);
-        let wanted = listing(&table, &answer);
+        let (answer, wanted) = sample.answer();
         let input = folder.join(&sample.name);
         fs::write(&input, [vec![sample.right], bytes.clone()].concat()).expect("written");
 

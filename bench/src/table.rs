@@ -1,12 +1,12 @@
 //! A table in arrays, as the benchmark's judges want it.
 
-use reference::file::{self, Contents, Step};
+use reference::file::{self, Contents, Set, Step, CELLS, NAMES};
 use std::ops::Range;
 
 #[derive(Clone)]
 pub struct State {
-    pub kinds: [u8; 32],
-    pub cells: [u8; 1024],
+    pub kinds: [u8; NAMES],
+    pub cells: [Set; CELLS],
 }
 
 #[derive(Clone, Copy, PartialEq, Eq)]
@@ -22,10 +22,10 @@ pub struct Rule {
     pub blanks: usize,
     /// The bits of the rights that carry the one that is tested, subject blank,
     /// object blank.
-    pub conditions: Vec<(u8, usize, usize)>,
+    pub conditions: Vec<(Set, usize, usize)>,
     pub kind: Kind,
     /// The bit that is entered or deleted, 0 in other kinds.
-    pub bit: u8,
+    pub bit: Set,
     pub first: usize,
     pub second: usize,
     /// What a place has in each position: all names for a blank, 0 for one that
@@ -54,7 +54,7 @@ impl State {
     }
 
     /// Whether the cell has the right of this bit, or one of several.
-    pub fn has(&self, subject: usize, object: usize, bits: u8) -> bool {
+    pub fn has(&self, subject: usize, object: usize, bits: Set) -> bool {
         self.cells[(32 * subject + object) & 1023] & bits != 0
     }
 }
@@ -72,12 +72,10 @@ fn names(rule: &file::Rule, position: usize) -> Range<usize> {
 impl Table {
     pub fn new(contents: &Contents) -> Table {
         let matrix = &contents.matrix;
-        let mut start = State {
-            kinds: [0; 32],
-            cells: [0; 1024],
+        let start = State {
+            kinds: matrix.kinds,
+            cells: matrix.cells,
         };
-        start.kinds.copy_from_slice(&matrix.kinds);
-        start.cells.copy_from_slice(&matrix.cells);
         let rules = contents.rules.iter().map(|rule| {
             assert!(rule.steps.len() == 1);
             let (kind, bit, first, second) = match rule.steps[0] {

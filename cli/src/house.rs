@@ -6,7 +6,7 @@ pub mod encode;
 pub mod place;
 pub mod sections;
 
-use crate::limits::NAMES;
+use crate::limits::{NAMES, RIGHTS};
 use carries::Carries;
 
 #[derive(Clone, Copy, Debug, PartialEq, Eq)]
@@ -19,6 +19,8 @@ pub enum Kind {
 /// A set of rights: bit i is right i.
 #[derive(Clone, Copy, Debug, Default, PartialEq, Eq)]
 pub struct RightSet(pub u16);
+
+const _: () = assert!(RIGHTS <= u16::BITS as usize, "a bit for each right");
 
 impl RightSet {
     pub fn has(self, right: usize) -> bool {

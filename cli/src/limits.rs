@@ -2,8 +2,8 @@
 
 /// Names are numbered 0 to 31.
 pub const NAMES: usize = 32;
-/// A file has 1 to 8 rights.
-pub const RIGHTS: usize = 8;
+/// A file has 1 to 12 rights.
+pub const RIGHTS: usize = 12;
 pub const RULES: usize = 32;
 /// A rule has 1 to 4 blanks; a step of a trace has as many actuals.
 pub const BLANKS: usize = 4;
@@ -20,8 +20,8 @@ pub const PAIR_BYTES: usize = 4;
 pub const MATRIX_SECTIONS: usize = 2;
 /// The sections before the rules: kinds, cells and what the rights carry.
 pub const FIXED_SECTIONS: usize = MATRIX_SECTIONS + 1;
-/// A set of rights: a cell, or what a right carries.
-pub const SET_BYTES: usize = 1;
+/// A set of rights, a cell or what a right carries: a bit for each right, in whole bytes.
+pub const SET_BYTES: usize = RIGHTS.div_ceil(u8::BITS as usize);
 pub const CELLS_BYTES: usize = SET_BYTES * NAMES * NAMES;
 /// Blanks, conditions, steps.
 pub const RULE_HEAD_BYTES: usize = 3;

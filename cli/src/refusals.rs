@@ -50,7 +50,7 @@ pub const ALL: [Refusal; 22] = [
     refusal(
         2,
         WRITER,
-        "the number of rights is not 1 to 8",
+        "the number of rights is not 1 to 12",
         "set byte 0 to the number of rights; of a file that is no house file this is often the \
          first refusal",
     ),
@@ -71,7 +71,7 @@ pub const ALL: [Refusal; 22] = [
         5,
         WRITER,
         "a section has a wrong length",
-        "give the kinds 32 bytes, the cells 1,024, the carries one for each right, and a rule 3 \
+        "give the kinds 32 bytes, the cells 2,048, the carries two for each right, and a rule 3 \
          and 3 more for each condition and 4 for each step",
     ),
     refusal(
@@ -151,7 +151,7 @@ pub const ALL: [Refusal; 22] = [
         24,
         ASKER,
         "the buffer for the steps is too short",
-        "lend 5 × (g × (subjects + 1) × (names + 2) + 4) bytes; 39,700 are enough for every \
+        "lend 5 × (g × (subjects + 1) × (names + 2) + 4) bytes; 59,540 are enough for every \
          file. tugcaphi always does",
     ),
     refusal(

@@ -1,7 +1,9 @@
 //! A refusal in words: its number, its meaning, where it is and what to do.
 
 use crate::house::place::{self, Place};
+use crate::house::sections::number;
 use crate::json::Json;
+use crate::limits::{HEADER_BYTES, NAMES, PAIR_BYTES};
 use crate::refusals;
 use crate::table;
 use crate::terminal::Style;
@@ -18,7 +20,7 @@ impl BadFile {
         BadFile {
             refusal,
             place: place::of_refusal(file, refusal),
-            hint: looks_like_text(file),
+            hint: looks_like_text(file).or_else(|| of_before(file, refusal)),
         }
     }
 
@@ -81,6 +83,17 @@ fn place_json(place: &Place) -> Json {
         ("found", place.found.clone().into()),
         ("allowed", place.allowed.clone().into()),
     ])
+}
+
+/// A file whose cells have one byte each is of the format before two, which had at most eight rights.
+fn of_before(file: &[u8], refusal: u8) -> Option<String> {
+    let length = HEADER_BYTES + PAIR_BYTES + 2;
+    let cells = refusal == 5 && number(&file[length..length + 2]) == NAMES * NAMES;
+    cells.then(|| {
+        "this is a file of the earlier format, whose cells have one byte: make it again from its \
+         table, or from what tugcaphi show of the earlier version prints"
+            .to_string()
+    })
 }
 
 /// A text given for a house file is most likely a table without its first line.

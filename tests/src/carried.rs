@@ -6,10 +6,11 @@ mod verdicts;
 pub use played::{played, Played};
 pub use verdicts::{verdicts, Verdict};
 
+use crate::file::{Set, RIGHTS};
 use crate::generate::{rule, Draft, ENTER};
 
 /// So many subjects, with these rights in cells.
-fn subjects(rights: u8, count: usize, cells: &[(usize, usize, u8)]) -> Draft {
+pub fn subjects(rights: u8, count: usize, cells: &[(usize, usize, u8)]) -> Draft {
     let mut draft = Draft::empty(rights);
     draft.kinds[..count].fill(2);
     for &(s, o, right) in cells {
@@ -19,7 +20,7 @@ fn subjects(rights: u8, count: usize, cells: &[(usize, usize, u8)]) -> Draft {
 }
 
 /// The draft with rights that carry others.
-fn with(draft: &Draft, carries: &[(u8, u8)]) -> Draft {
+pub fn with(draft: &Draft, carries: &[(u8, u8)]) -> Draft {
     let mut draft = draft.clone();
     for &(right, other) in carries {
         draft.carry(right, other);
@@ -30,9 +31,9 @@ fn with(draft: &Draft, carries: &[(u8, u8)]) -> Draft {
 /// Files that 44 refuses, each accepted without one bit.
 pub fn wrong() -> Vec<Vec<u8>> {
     let mut all = Vec::new();
-    for rights in 1..8 {
+    for rights in 1..=RIGHTS {
         for right in 0..rights {
-            for carried in rights..8 {
+            for carried in rights..Set::BITS as u8 {
                 let mut draft = subjects(rights, 1, &[(0, 0, 0)]);
                 draft.rules = vec![rule(1, &[[0, 0, 0]], &[[ENTER, 0, 0, 0]])];
                 draft.carry(right, carried);

@@ -1,9 +1,11 @@
 //! Rights that carry others (document 02, C-19).
 
-/// The rights that a right carries, itself first: byte i of `carries` is the set
+use crate::file::Set;
+
+/// The rights that a right carries, itself first: entry i of `carries` is the set
 /// of rights that right i carries in the file, and carrying goes on through
 /// further rights.
-pub fn carried(carries: &[u8], right: u8) -> Vec<u8> {
+pub fn carried(carries: &[Set], right: u8) -> Vec<u8> {
     let mut carried = vec![right];
     let mut at = 0;
     while let Some(&next) = carried.get(at) {
@@ -19,7 +21,7 @@ pub fn carried(carries: &[u8], right: u8) -> Vec<u8> {
 
 /// Of each right the set of rights that carry it, by any of which in a cell a
 /// condition on it holds.
-pub fn carriers(carries: &[u8]) -> Vec<u8> {
+pub fn carriers(carries: &[Set]) -> Vec<Set> {
     let mut carriers = vec![0; carries.len()];
     for right in 0..carries.len() as u8 {
         for other in carried(carries, right) {

@@ -1,6 +1,7 @@
 //! Damaging files: planted faults whose refusal is known, and wrong tables.
 
-use crate::generate::Draft;
+use crate::file::{Set, RIGHTS};
+use crate::generate::{joined, Draft};
 use crate::random::Random;
 
 /// A fault, in the order in which document 01 has faults reported; a rule's
@@ -71,8 +72,7 @@ impl Fault {
 
 /// The draft's file with the faults in it. Those reported later are planted
 /// first, so that an earlier one never takes a later one's place away.
-/// None if there is no room for a fault in a cell or in the carries.
-pub fn plant(random: &mut Random, draft: &Draft, faults: &[Fault]) -> Option<Vec<u8>> {
+pub fn plant(random: &mut Random, draft: &Draft, faults: &[Fault]) -> Vec<u8> {
     let mut faults = faults.to_vec();
     faults.sort();
     // The same fault twice might undo itself.
@@ -82,32 +82,22 @@ pub fn plant(random: &mut Random, draft: &Draft, faults: &[Fault]) -> Option<Vec
     for fault in &faults {
         match *fault {
             Fault::Rule(rule, kind) => plant_in_rule(random, &mut draft, rule, kind),
-            Fault::Cell => plant_in_cell(random, &mut draft)?,
-            Fault::Carried => plant_in_carries(random, &mut draft)?,
+            Fault::Cell => plant_in_cell(random, &mut draft),
+            Fault::Carried => plant_in_carries(random, &mut draft),
             Fault::Kind => {
                 let name = random.below(draft.kinds.len());
                 draft.kinds[name] = random.between(3, 255) as u8;
             }
-            Fault::MatrixLength => {
-                let section = match random.below(3) {
-                    0 => &mut draft.kinds,
-                    1 => &mut draft.cells,
-                    _ => &mut draft.carries,
-                };
-                let length = section.len();
-                let wrong = match random.below(5) {
-                    0 => 0,
-                    1 => length - 1,
-                    2 => length + 1,
-                    3 => length - random.between(1, length),
-                    _ => length + random.between(1, 200),
-                };
-                section.resize(wrong, 0);
-            }
             _ => {}
         }
     }
-    let mut file = draft.file();
+    let mut sections = draft.sections();
+    if faults.contains(&Fault::MatrixLength) {
+        let section = random.pick(&[0, 1, 2]);
+        let length = sections[section].len();
+        sections[section].resize(wrong_length(random, length), 0);
+    }
+    let mut file = joined(draft.rights, &sections);
     for fault in &faults {
         match *fault {
             Fault::Table => {
@@ -128,7 +118,7 @@ pub fn plant(random: &mut Random, draft: &Draft, faults: &[Fault]) -> Option<Vec
                 file.truncate(random.between(2, needed - 1));
             }
             Fault::Pairs => file[1] = random.pick(&[0, 1, 2, 36, 37, 64, 128, 255]),
-            Fault::Rights => file[0] = random.pick(&[0, 9, 10, 16, 128, 255]),
+            Fault::Rights => file[0] = random.pick(&[0, RIGHTS + 1, RIGHTS + 2, 16, 128, 255]),
             Fault::Size => {
                 if random.percent(50) {
                     file.truncate(random.below(2));
@@ -140,33 +130,49 @@ pub fn plant(random: &mut Random, draft: &Draft, faults: &[Fault]) -> Option<Vec
             _ => {}
         }
     }
-    Some(file)
+    file
 }
 
-fn plant_in_cell(random: &mut Random, draft: &mut Draft) -> Option<()> {
-    for _ in 0..200 {
-        let (s, o) = (random.below(32), random.below(32));
-        let place = 32 * s + o;
-        if draft.kinds[s] != 2 || draft.kinds[o] == 0 {
-            draft.cells[place] = random.between(1, 255) as u8;
-            return Some(());
-        }
-        if draft.rights < 8 {
-            draft.cells[place] |= 1 << random.between(draft.rights as usize, 7);
-            return Some(());
-        }
+/// A length of kinds, cells or carries that is none: among others a byte too few or
+/// too many, and half, as if a set had one byte.
+fn wrong_length(random: &mut Random, length: usize) -> usize {
+    match random.below(6) {
+        0 => 0,
+        1 => length - 1,
+        2 => length + 1,
+        3 => length / 2,
+        4 => length - random.between(1, length),
+        _ => length + random.between(1, 200),
     }
-    None
 }
 
-/// A carried right from g on; with 8 rights there is none.
-fn plant_in_carries(random: &mut Random, draft: &mut Draft) -> Option<()> {
-    if draft.rights >= 8 {
-        return None;
+/// The bit of a right that the file does not have, in the low byte or the high one.
+fn bit_outside(random: &mut Random, rights: u8) -> Set {
+    1 << random.between(usize::from(rights), 15)
+}
+
+fn plant_in_cell(random: &mut Random, draft: &mut Draft) {
+    let (s, o) = (random.below(32), random.below(32));
+    let cell = &mut draft.cells[32 * s + o];
+    if draft.kinds[s] == 2 && draft.kinds[o] != 0 {
+        *cell |= bit_outside(random, draft.rights);
+        return;
     }
+    // Where it must be 0: rights of the file, in one of its bytes or both, or any.
+    let of_file = (1 << draft.rights) - 1;
+    let any = random.between(1, 65_535) as Set;
+    *cell = match random.below(4) {
+        0 if any & of_file & 255 != 0 => any & of_file & 255,
+        1 if any & of_file >> 8 << 8 != 0 => any & of_file >> 8 << 8,
+        2 => bit_outside(random, draft.rights),
+        _ => any,
+    };
+}
+
+/// A carried right from g on.
+fn plant_in_carries(random: &mut Random, draft: &mut Draft) {
     let right = random.below(draft.carries.len());
-    draft.carries[right] |= 1 << random.between(draft.rights as usize, 7);
-    Some(())
+    draft.carries[right] |= bit_outside(random, draft.rights);
 }
 
 fn plant_in_rule(random: &mut Random, draft: &mut Draft, rule: usize, fault: RuleFault) {

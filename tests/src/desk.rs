@@ -1,11 +1,11 @@
 //! The desk program: the right and a file in, a printed verdict out.
 
-use crate::file;
+use crate::file::{self, RIGHTS};
 use crate::judge::{judge, SAFE, UNSAFE};
 
-/// Long enough for every accepted file of at most 30 names:
-/// 8 rights, 30 subjects, 30 names.
-pub const BUFFER: usize = 5 * (8 * 31 * 32 + 4);
+/// Long enough for every accepted file of at most 30 names, with 30 subjects:
+/// 59,540 bytes.
+pub const BUFFER: usize = 5 * (RIGHTS as usize * 31 * 32 + 4);
 
 pub fn desk(input: &[u8]) -> String {
     let Some((&right, bytes)) = input.split_first() else {

@@ -5,6 +5,13 @@ use crate::machine::Bounded;
 
 pub const NAMES: usize = 32;
 pub const CELLS: usize = 1024;
+/// A file has at most so many rights (document 02, C-21).
+pub const RIGHTS: u8 = 12;
+
+/// A set of rights, a cell or what a right carries: bit i is right i.
+pub type Set = u16;
+/// In the file it has two bytes, low byte first.
+pub const SET_BYTES: usize = 2;
 
 /// Kinds, cells and carries come before the rules.
 pub const FIXED_PAIRS: usize = 3;
@@ -14,7 +21,7 @@ pub const FIXED_PAIRS: usize = 3;
 pub struct Condition {
     pub right: u8,
     /// The rights that carry it, itself among them.
-    pub carriers: u8,
+    pub carriers: Set,
     pub subject: usize,
     pub object: usize,
 }
@@ -86,8 +93,8 @@ pub struct Contents {
     /// The number of rights, g.
     pub rights: u8,
     pub matrix: Bounded,
-    /// Byte i: the rights that right i carries, as the file has it.
-    pub carries: Vec<u8>,
+    /// Entry i: the rights that right i carries, as the file has it.
+    pub carries: Vec<Set>,
     pub rules: Vec<Rule>,
 }
 
@@ -101,6 +108,12 @@ fn low_byte_first(bytes: &[u8], at: usize) -> usize {
     bytes[at] as usize + 256 * bytes[at + 1] as usize
 }
 
+/// The sets of a section.
+fn sets(section: &[u8]) -> Vec<Set> {
+    let set = |bytes: &[u8]| Set::from(bytes[0]) + 256 * Set::from(bytes[1]);
+    section.chunks_exact(SET_BYTES).map(set).collect()
+}
+
 /// The contents, or the first refusal in the order that document 01 gives, with
 /// document 02's 44 between 7 and the rules.
 pub fn read(bytes: &[u8]) -> Result<Contents, u8> {
@@ -108,7 +121,7 @@ pub fn read(bytes: &[u8]) -> Result<Contents, u8> {
         return Err(1);
     }
     let rights = bytes[0];
-    if !(1..=8).contains(&rights) {
+    if !(1..=RIGHTS).contains(&rights) {
         return Err(2);
     }
     let pairs = bytes[1] as usize;
@@ -140,7 +153,10 @@ pub fn read(bytes: &[u8]) -> Result<Contents, u8> {
     let kinds = section(0);
     let cells = section(1);
     let carries = section(2);
-    if kinds.len() != NAMES || cells.len() != CELLS || carries.len() != rights as usize {
+    if kinds.len() != NAMES
+        || cells.len() != SET_BYTES * CELLS
+        || carries.len() != SET_BYTES * rights as usize
+    {
         return Err(5);
     }
     for &kind in kinds {
@@ -148,11 +164,12 @@ pub fn read(bytes: &[u8]) -> Result<Contents, u8> {
             return Err(6);
         }
     }
+    let cells = sets(cells);
     for subject in 0..NAMES {
         for object in 0..NAMES {
             let cell = cells[32 * subject + object];
             // What is left of the cell without rights 0 to g - 1.
-            if u16::from(cell) >> rights != 0 {
+            if cell >> rights != 0 {
                 return Err(7);
             }
             if cell != 0 && (kinds[subject] != 2 || kinds[object] == 0) {
@@ -161,13 +178,14 @@ pub fn read(bytes: &[u8]) -> Result<Contents, u8> {
         }
     }
 
-    for &carried in carries {
-        if u16::from(carried) >> rights != 0 {
+    let carries = sets(carries);
+    for &carried in &carries {
+        if carried >> rights != 0 {
             return Err(44);
         }
     }
 
-    let carriers = carriers(carries);
+    let carriers = carriers(&carries);
     let mut rules = Vec::new();
     for pair in FIXED_PAIRS..pairs {
         rules.push(read_rule(section(pair), &carriers)?);
@@ -175,17 +193,17 @@ pub fn read(bytes: &[u8]) -> Result<Contents, u8> {
 
     let mut matrix = Bounded::empty();
     matrix.kinds.copy_from_slice(kinds);
-    matrix.cells.copy_from_slice(cells);
+    matrix.cells.copy_from_slice(&cells);
     Ok(Contents {
         rights,
         matrix,
-        carries: carries.to_vec(),
+        carries,
         rules,
     })
 }
 
 /// `carriers`: of each right of the file the rights that carry it.
-fn read_rule(section: &[u8], carriers: &[u8]) -> Result<Rule, u8> {
+fn read_rule(section: &[u8], carriers: &[Set]) -> Result<Rule, u8> {
     let rights = carriers.len() as u8;
     if section.len() < 3 {
         return Err(5);

@@ -1,7 +1,7 @@
 //! Generators of accepted files, of rule runs and of traces.
 
 use crate::carrying::carriers;
-use crate::file::{Contents, Rule, Step, CELLS, NAMES};
+use crate::file::{Contents, Rule, Set, Step, CELLS, NAMES, RIGHTS};
 use crate::machine::{numbers, run, AccessMatrix, Bounded, Kind};
 use crate::random::Random;
 
@@ -12,14 +12,14 @@ pub const CREATE_OBJECT: u8 = 4;
 pub const DESTROY_SUBJECT: u8 = 5;
 pub const DESTROY_OBJECT: u8 = 6;
 
-/// A file in the making: its sections, not yet put together.
+/// A file in the making: what it says, not yet put into bytes.
 #[derive(Clone, Debug)]
 pub struct Draft {
     pub rights: u8,
     pub kinds: Vec<u8>,
-    pub cells: Vec<u8>,
-    /// Byte i: the rights that right i carries.
-    pub carries: Vec<u8>,
+    pub cells: Vec<Set>,
+    /// Entry i: the rights that right i carries.
+    pub carries: Vec<Set>,
     pub rules: Vec<Vec<u8>>,
 }
 
@@ -50,20 +50,16 @@ impl Draft {
         draft
     }
 
-    pub fn file(&self) -> Vec<u8> {
-        let mut sections = vec![self.kinds.clone(), self.cells.clone(), self.carries.clone()];
+    /// The bytes of its sections.
+    pub fn sections(&self) -> Vec<Vec<u8>> {
+        let bytes = |sets: &[Set]| sets.iter().flat_map(|set| set.to_le_bytes()).collect();
+        let mut sections = vec![self.kinds.clone(), bytes(&self.cells), bytes(&self.carries)];
         sections.extend(self.rules.iter().cloned());
-        let mut file = vec![self.rights, sections.len() as u8];
-        let mut offset = 2 + 4 * sections.len();
-        for section in &sections {
-            file.extend((offset as u16).to_le_bytes());
-            file.extend((section.len() as u16).to_le_bytes());
-            offset += section.len();
-        }
-        for section in &sections {
-            file.extend(section);
-        }
-        file
+        sections
+    }
+
+    pub fn file(&self) -> Vec<u8> {
+        joined(self.rights, &self.sections())
     }
 
     fn names(&self) -> Vec<usize> {
@@ -157,6 +153,21 @@ impl Draft {
             *section = with_spares(random, section, count);
         }
     }
+}
+
+/// The file of these sections, whatever is in them.
+pub fn joined(rights: u8, sections: &[Vec<u8>]) -> Vec<u8> {
+    let mut file = vec![rights, sections.len() as u8];
+    let mut offset = 2 + 4 * sections.len();
+    for section in sections {
+        file.extend((offset as u16).to_le_bytes());
+        file.extend((section.len() as u16).to_le_bytes());
+        offset += section.len();
+    }
+    for section in sections {
+        file.extend(section);
+    }
+    file
 }
 
 /// The blanks that the rule's conditions and steps name, in order.
@@ -276,9 +287,18 @@ pub fn any_rule(random: &mut Random, rights: u8) -> Vec<u8> {
     rule(blanks, &conditions, &steps)
 }
 
+/// A number of rights: on both sides of a byte's eight more often than by chance.
+fn any_rights(random: &mut Random) -> u8 {
+    match random.below(4) {
+        0 => random.pick(&[7, 8, 9]),
+        1 => random.pick(&[RIGHTS - 1, RIGHTS]),
+        _ => random.between(1, usize::from(RIGHTS)) as u8,
+    }
+}
+
 /// Any accepted file.
 pub fn any(random: &mut Random) -> Draft {
-    let rights = random.between(1, 8) as u8;
+    let rights = any_rights(random);
     let names = match random.below(6) {
         0 => 0,
         1 => NAMES,
@@ -298,13 +318,13 @@ pub fn any(random: &mut Random) -> Draft {
     draft
 }
 
-/// The longest file there can be: 2,454 bytes.
+/// The longest file there can be: 3,494 bytes.
 pub fn longest(random: &mut Random) -> Draft {
-    let mut draft = matrix(random, 8, NAMES, 100, 100);
+    let mut draft = matrix(random, RIGHTS, NAMES, 100, 100);
     draft.spread_carries(random, 100);
     for _ in 0..32 {
-        let conditions: Vec<_> = (0..4).map(|_| condition(random, 8, 4)).collect();
-        let steps: Vec<_> = (1..=6).map(|kind| step(random, 8, 4, kind)).collect();
+        let conditions: Vec<_> = (0..4).map(|_| condition(random, RIGHTS, 4)).collect();
+        let steps: Vec<_> = (1..=6).map(|kind| step(random, RIGHTS, 4, kind)).collect();
         draft.rules.push(rule(4, &conditions, &steps));
     }
     draft
@@ -364,7 +384,7 @@ pub fn plausible_rule(random: &mut Random, rights: u8) -> Vec<u8> {
 
 /// An accepted file whose rules can often be carried out.
 pub fn lively(random: &mut Random) -> Draft {
-    let rights = random.between(1, 8) as u8;
+    let rights = any_rights(random);
     let names = random.pick(&[0, 1, 2, 4, 8, 16, 24, 30, 31, 32]);
     let subjects = random.pick(&[30, 60, 80, 100]);
     let density = random.pick(&[0, 20, 50, 90]);
@@ -620,7 +640,7 @@ pub fn small(random: &mut Random) -> Draft {
     draft
 }
 
-fn small_rule(random: &mut Random, rights: u8, kind: u8, right: u8, cells: &[u8]) -> Vec<u8> {
+fn small_rule(random: &mut Random, rights: u8, kind: u8, right: u8, cells: &[Set]) -> Vec<u8> {
     let blanks = random.pick(&[1, 2, 2, 2, 3]);
     let [_, _, first, second] = step(random, rights, blanks, ENTER);
     let chosen = match kind {
@@ -653,10 +673,65 @@ fn small_rule(random: &mut Random, rights: u8, kind: u8, right: u8, cells: &[u8]
     rule(blanks, &conditions, &[chosen])
 }
 
+/// The same table with other numbers for its rights, in a file that may have more
+/// of them, and each right's new number. The rights that come in so stand in cells,
+/// and some are carried; no rule names them, and they carry none.
+pub fn renumbered(random: &mut Random, draft: &Draft) -> (Draft, Vec<u8>) {
+    let old = usize::from(draft.rights);
+    let most = usize::from(RIGHTS);
+    let rights = match random.percent(60) {
+        true => most,
+        false => random.between(old, most),
+    };
+    let mut numbers: Vec<u8> = (0..rights as u8).collect();
+    random.shuffle(&mut numbers);
+    let others = numbers.split_off(old);
+    let moved = |set: Set| -> Set {
+        let held = (0..old).filter(|right| set >> right & 1 == 1);
+        held.map(|right| 1 << numbers[right]).sum()
+    };
+    let mut other = Draft::empty(rights as u8);
+    other.kinds = draft.kinds.clone();
+    other.cells = draft.cells.iter().map(|&cell| moved(cell)).collect();
+    for (right, &carried) in draft.carries.iter().enumerate() {
+        other.carries[usize::from(numbers[right])] = moved(carried);
+    }
+    for section in &draft.rules {
+        let (head, rest) = section.split_at(3);
+        let (conditions, steps) = rest.split_at(3 * usize::from(head[1]));
+        let mut section = head.to_vec();
+        for test in conditions.chunks(3) {
+            section.extend([numbers[usize::from(test[0])], test[1], test[2]]);
+        }
+        for step in steps.chunks(4) {
+            let right = match step[0] {
+                ENTER | DELETE => numbers[usize::from(step[1])],
+                _ => 0,
+            };
+            section.extend([step[0], right, step[2], step[3]]);
+        }
+        other.rules.push(section);
+    }
+    let density = random.pick(&[0, 30, 100]);
+    for &right in &others {
+        for s in draft.names() {
+            for o in draft.names() {
+                if draft.kinds[s] == 2 && random.percent(density) {
+                    other.put(s, o, right);
+                }
+            }
+        }
+        if random.percent(30) {
+            other.carry(random.pick(&numbers), right);
+        }
+    }
+    (other, numbers)
+}
+
 /// A table of up to 30 names and 32 rules of one step, and the right to ask
 /// for. It is entered by few rules mostly, so that many steps come first.
 pub fn large(random: &mut Random) -> (Draft, u8) {
-    let rights = random.between(1, 8) as u8;
+    let rights = any_rights(random);
     let right = random.below(rights as usize) as u8;
     let names = random.pick(&[0, 1, 3, 6, 10, 15, 20, 25, 28, 29, 30]);
     let subjects = random.pick(&[20, 50, 80, 100]);
@@ -767,7 +842,7 @@ pub fn chain(random: &mut Random) -> (Draft, u8) {
 
 /// The chain, its rules without spare blanks.
 fn walks(random: &mut Random) -> (Draft, u8) {
-    let rights = random.between(4, 8) as u8;
+    let rights = random.between(4, usize::from(RIGHTS)) as u8;
     let mut draft = Draft::empty(rights);
     let names = random.pick(&[2, 4, 8, 12, 16, 20, 25, 29, 30, 30]);
     let mut path = some_names(random, names);

@@ -28,5 +28,6 @@ pub mod stored;
 pub mod table;
 pub mod traced;
 pub mod trusted;
+pub mod twelve;
 pub mod verdict;
 pub mod written;

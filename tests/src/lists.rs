@@ -1,7 +1,7 @@
 //! Lists of cells that a press may need: such as can be asked for, and such as
 //! 41 refuses, by its reasons.
 
-use crate::file::{Contents, NAMES};
+use crate::file::{Contents, NAMES, RIGHTS};
 use crate::machine::{AccessMatrix, Bounded, Kind};
 use crate::need::{Cell, MOST_CELLS};
 use crate::random::Random;
@@ -126,7 +126,7 @@ fn wrong_byte(random: &mut Random, contents: &Contents, reason: Reason) -> Optio
     Some(match reason {
         Reason::NoRight => (
             0,
-            some(random, &[contents.rights, contents.rights, 8, 31, 255])?,
+            some(random, &[contents.rights, contents.rights, RIGHTS, 31, 255])?,
         ),
         Reason::FirstIsObject => (1, some(random, &of_kind(Kind::Object))?),
         Reason::FirstIsAbsent => (1, some(random, &of_kind(Kind::Absent))?),

@@ -1,7 +1,7 @@
 //! Running a rule on an access matrix: on the file's names 0 to 31, and on the
 //! printer's machine, whose names are whole numbers without a bound.
 
-use crate::file::{self, Contents, Rule, Step, CELLS, NAMES};
+use crate::file::{self, Contents, Rule, Set, Step, CELLS, NAMES, SET_BYTES};
 use std::collections::BTreeMap;
 
 #[derive(Clone, Copy, Debug, PartialEq, Eq)]
@@ -16,8 +16,8 @@ pub trait AccessMatrix: Clone {
     const HIGHEST: Option<u64>;
 
     fn kind(&self, name: u64) -> Kind;
-    fn cell(&self, subject: u64, object: u64) -> u8;
-    fn set_cell(&mut self, subject: u64, object: u64, rights: u8);
+    fn cell(&self, subject: u64, object: u64) -> Set;
+    fn set_cell(&mut self, subject: u64, object: u64, rights: Set);
     /// The name exists from now on; its row and column are empty.
     fn create(&mut self, name: u64, kind: Kind);
     /// The name goes, with its row and column.
@@ -36,7 +36,7 @@ pub trait AccessMatrix: Clone {
 #[derive(Clone, Debug, PartialEq, Eq)]
 pub struct Bounded {
     pub kinds: [u8; NAMES],
-    pub cells: [u8; CELLS],
+    pub cells: [Set; CELLS],
 }
 
 impl Bounded {
@@ -84,11 +84,11 @@ impl AccessMatrix for Bounded {
         }
     }
 
-    fn cell(&self, subject: u64, object: u64) -> u8 {
+    fn cell(&self, subject: u64, object: u64) -> Set {
         self.cells[32 * subject as usize + object as usize]
     }
 
-    fn set_cell(&mut self, subject: u64, object: u64, rights: u8) {
+    fn set_cell(&mut self, subject: u64, object: u64, rights: Set) {
         self.cells[32 * subject as usize + object as usize] = rights;
     }
 
@@ -117,7 +117,7 @@ impl AccessMatrix for Bounded {
 #[derive(Clone, Debug, PartialEq, Eq)]
 pub struct Unbounded {
     kinds: BTreeMap<u64, Kind>,
-    cells: BTreeMap<(u64, u64), u8>,
+    cells: BTreeMap<(u64, u64), Set>,
 }
 
 impl Unbounded {
@@ -145,11 +145,11 @@ impl AccessMatrix for Unbounded {
         self.kinds.get(&name).copied().unwrap_or(Kind::Absent)
     }
 
-    fn cell(&self, subject: u64, object: u64) -> u8 {
+    fn cell(&self, subject: u64, object: u64) -> Set {
         self.cells.get(&(subject, object)).copied().unwrap_or(0)
     }
 
-    fn set_cell(&mut self, subject: u64, object: u64, rights: u8) {
+    fn set_cell(&mut self, subject: u64, object: u64, rights: Set) {
         if rights == 0 {
             self.cells.remove(&(subject, object));
         } else {
@@ -172,7 +172,7 @@ impl AccessMatrix for Unbounded {
 pub struct Done<M> {
     pub after: M,
     /// Bit i: some step entered right i into a cell that lacked it.
-    pub leaked: u8,
+    pub leaked: Set,
 }
 
 /// One rule run: the state after it, or its refusal 11, 12, 14 or 15.
@@ -287,7 +287,10 @@ pub fn numbers(actuals: [u8; 4]) -> [u64; 4] {
 pub fn write_matrix(file: &mut [u8], matrix: &Bounded) {
     let kinds = file::kinds_offset(file);
     file[kinds..kinds + NAMES].copy_from_slice(&matrix.kinds);
-    file[kinds + NAMES..kinds + NAMES + CELLS].copy_from_slice(&matrix.cells);
+    let cells = &mut file[kinds + NAMES..][..SET_BYTES * CELLS];
+    for (bytes, cell) in cells.chunks_exact_mut(SET_BYTES).zip(matrix.cells) {
+        bytes.copy_from_slice(&[(cell % 256) as u8, (cell / 256) as u8]);
+    }
 }
 
 /// A rule run on a lent file: 0, or the refusal with no byte changed.

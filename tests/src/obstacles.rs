@@ -2,28 +2,25 @@
 //! 23 and 24, planted by chance.
 
 use crate::damage::{plant, Fault};
+use crate::desk::BUFFER;
 use crate::generate::{any, rule, small, Draft, ENTER};
 use crate::random::Random;
 use crate::verdict::needed;
 
 /// A file with a fault in it.
 pub fn wrong_file(random: &mut Random) -> (Vec<u8>, Fault) {
-    loop {
-        let draft = match random.percent(50) {
-            true => small(random),
-            false => any(random),
-        };
-        let fault = Fault::any(random, draft.rules.len());
-        if let Some(file) = plant(random, &draft, &[fault]) {
-            return (file, fault);
-        }
-    }
+    let draft = match random.percent(50) {
+        true => small(random),
+        false => any(random),
+    };
+    let fault = Fault::any(random, draft.rules.len());
+    (plant(random, &draft, &[fault]), fault)
 }
 
 /// Plants 22, 23 and 24, each by chance. Gives the length of the buffer, and
 /// the refusals in their order.
 pub fn obstruct(random: &mut Random, draft: &mut Draft) -> (usize, Vec<u8>) {
-    let mut length = 40_000;
+    let mut length = BUFFER;
     let mut planted = Vec::new();
     if random.percent(30) {
         let place = random.below(draft.rules.len() + 1);

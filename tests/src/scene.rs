@@ -1,6 +1,7 @@
 //! A folder of its own with a house file and its log, on which the program
 //! `tugcaphi` runs rules, each with an effect that no other run has.
 
+use crate::file::RIGHTS;
 use crate::generate::{rule, Draft, ENTER};
 use crate::machine::run_file;
 use crate::report::{Group, Report};
@@ -24,18 +25,18 @@ pub fn program() -> PathBuf {
     path.canonicalize().unwrap_or(path)
 }
 
-/// Eight rights, 32 subjects, all cells empty; rule r enters right r anywhere.
+/// All rights, 32 subjects, all cells empty; rule r enters right r anywhere.
 pub fn table() -> Vec<u8> {
-    let mut draft = Draft::empty(8);
+    let mut draft = Draft::empty(RIGHTS);
     draft.kinds = vec![2; 32];
-    for right in 0..8 {
+    for right in 0..RIGHTS {
         draft.rules.push(rule(2, &[], &[[ENTER, right, 0, 1]]));
     }
     draft.file()
 }
 
 /// How many different effects there are.
-pub const EFFECTS: usize = 8 * 32 * 32;
+pub const EFFECTS: usize = RIGHTS as usize * 32 * 32;
 
 /// The step that has effect n.
 pub fn step(n: usize) -> [u8; 5] {

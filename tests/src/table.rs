@@ -16,12 +16,12 @@
 //! rights 2                     how many
 //! subjects 0 1 4-6
 //! objects 2
-//! cell (0,2): 0                rights in a cell; names may be stretches: (0-3,2)
-//! carries 1: 0                 the rights that a right carries
+//! cell (0,2): 0                rights in a cell, 0 to 15; names may be stretches: (0-3,2)
+//! carries 1: 0                 the rights that a right carries, 0 to 15
 //! rule (a,b,c): if 0 in (a,c) and 1 in (a,b) enter 1 into (b,c)
 //! kind 3: 7                    the kind of a name
 //! rule bytes: 1 0 1 9          a rule's section
-//! size kinds: 31               a section cut or filled with 0, also `cells`, `carries`
+//! size kinds: 31               a section's bytes, cut or filled with 0, also `cells`, `carries`
 //! byte 2: 11                   a byte of the file, by its offset
 //! size file: 4097              the file cut or filled with 0
 //! ```
@@ -29,8 +29,10 @@
 //! The steps of a rule stand with `;` between them, `#` begins a comment.
 //! Without the line `ask` the input is empty.
 
+use crate::file::Set;
 use crate::generate::{
-    rule, Draft, CREATE_OBJECT, CREATE_SUBJECT, DELETE, DESTROY_OBJECT, DESTROY_SUBJECT, ENTER,
+    joined, rule, Draft, CREATE_OBJECT, CREATE_SUBJECT, DELETE, DESTROY_OBJECT, DESTROY_SUBJECT,
+    ENTER,
 };
 use std::str::FromStr;
 use tugcaphi::house::encode::encode;
@@ -58,6 +60,7 @@ pub fn damaged(text: &str) -> Result<Vec<u8>, String> {
     let mut table = Table {
         asked: None,
         draft: Draft::empty(1),
+        sizes: [None; 3],
         bytes: Vec::new(),
         size: None,
     };
@@ -75,6 +78,8 @@ pub fn damaged(text: &str) -> Result<Vec<u8>, String> {
 struct Table {
     asked: Option<u8>,
     draft: Draft,
+    /// How many bytes kinds, cells and carries have.
+    sizes: [Option<usize>; 3],
     bytes: Vec<(usize, u8)>,
     size: Option<usize>,
 }
@@ -109,7 +114,7 @@ impl Table {
                 let (right, others) = halves(rest, ":")?;
                 let right: u8 = number(right)?;
                 if usize::from(right) >= self.draft.carries.len() {
-                    return Err(format!("no byte for right {right}"));
+                    return Err(format!("no entry for right {right}"));
                 }
                 for other in others.split_whitespace() {
                     self.draft.carry(right, bit(other)?);
@@ -128,9 +133,9 @@ impl Table {
                 let (what, size) = halves(rest, ":")?;
                 let size: usize = number(size)?;
                 match what {
-                    "kinds" => self.draft.kinds.resize(size, 0),
-                    "cells" => self.draft.cells.resize(size, 0),
-                    "carries" => self.draft.carries.resize(size, 0),
+                    "kinds" => self.sizes[0] = Some(size),
+                    "cells" => self.sizes[1] = Some(size),
+                    "carries" => self.sizes[2] = Some(size),
                     "file" => self.size = Some(size),
                     _ => return Err(format!("size of what: {what}")),
                 }
@@ -157,7 +162,11 @@ impl Table {
         let Some(asked) = self.asked else {
             return Vec::new();
         };
-        let mut file = self.draft.file();
+        let mut sections = self.draft.sections();
+        for (section, size) in sections.iter_mut().zip(self.sizes) {
+            section.resize(size.unwrap_or(section.len()), 0);
+        }
+        let mut file = joined(self.draft.rights, &sections);
         for &(offset, byte) in &self.bytes {
             file[offset] = byte;
         }
@@ -237,7 +246,7 @@ fn numbers(text: &str) -> Result<Vec<u8>, String> {
 /// A right that has a bit in a set of them.
 fn bit(text: &str) -> Result<u8, String> {
     match number(text)? {
-        right if right < 8 => Ok(right),
+        right if u32::from(right) < Set::BITS => Ok(right),
         right => Err(format!("no bit for right {right}")),
     }
 }

@@ -6,7 +6,7 @@ use crate::limits::RIGHTS;
 
 pub const BYTE_ORDER_MARK: &[u8] = b"\xEF\xBB\xBF";
 
-/// No table needs more: 1,024 cells with eight long words each are below it.
+/// No table needs more: 1,024 cells with twelve long words each are below it.
 pub const MOST_BYTES: usize = 4 << 20;
 
 /// A stretch of the text, in bytes from its start.
@@ -117,7 +117,9 @@ fn no_table(bytes: &[u8]) -> Mistake {
     let start = String::from_utf8_lossy(&bytes[..bytes.len().min(60)]);
     let source = Source::of(&start);
     let flaw = first_line(source.lines[0]);
-    let is_house = (1..=RIGHTS).contains(&bytes.first().map_or(0, |&byte| usize::from(byte)));
+    // A house file has zeros, and a text none, though it may begin with a line end or a tab.
+    let rights = bytes.first().map_or(0, |&byte| usize::from(byte));
+    let is_house = (1..=RIGHTS).contains(&rights) && bytes.contains(&0);
     match is_house {
         true => flaw.hint("this may be a house file: tugcaphi show prints it as a table"),
         false => flaw,

@@ -22,7 +22,8 @@ use Rattle.protection.specs.Limits.{rights}
 use Rattle.protection.specs.Carrying.{links, chained}
 use Rattle.carries.specs.Bytes.{carriedIn}
 use Rattle.carries.specs.Closed.{endsOf, reaches, carriedOf, carriersOf}
-use Rattle.carries.proofs.Sets.{getD-table, Filling, filling-start, filling-more, filling-end, number-is, has-alone}
+use Rattle.cases.proofs.Filling.{getD-table, Filling, filling-start, filling-more, filling-end}
+use Rattle.carries.proofs.Sets.{number-is, has-alone}
 
 or-none : (a : Bool) → a || false ≡ a
 or-none true = refl
@@ -84,7 +85,7 @@ module _ (i ls : ℕ) (ends : List ℕ) where
 
 pub ends-at : (g : ℕ) (l : List ℕ) (n i : ℕ) → i < rights → getD (endsOf g l n) i 0 ≡ number (chained g (carriedIn l) n i) rights
 unfolding endsOf
-ends-at g l n i h = getD-table (λ i. number (chained g (carriedIn l) n i) rights) i h
+ends-at g l n i h = getD-table rights (λ i. number (chained g (carriedIn l) n i) rights) i h
 
 pub length-ends : (g : ℕ) (l : List ℕ) (n : ℕ) → length (endsOf g l n) ≡ rights
 unfolding endsOf
@@ -132,21 +133,21 @@ abbrev pub endsFrom : ℕ → List ℕ → ℕ → ℕ → ℕ
 endsFrom g l n i = number (chained g (carriedIn l) n i) rights
 
 pub record Extending (g : ℕ) (l ends next : List ℕ) (i : ℕ) : Type 0 where
-  pub fills : (n : ℕ) → ends ≡ endsOf g l n → Filling (endsFrom g l (suc n)) ends next i
+  pub fills : (n : ℕ) → ends ≡ endsOf g l n → Filling rights (endsFrom g l (suc n)) ends next i
 
 module _ (g : ℕ) (l ends : List ℕ) where
   pub extending-start : Extending g l ends ends 0
-  extending-start = record { fills = λ n e. filling-start (endsFrom g l (suc n)) ends (ap length e ∙ length-ends g l n) }
+  extending-start = record { fills = λ n e. filling-start rights (endsFrom g l (suc n)) ends (ap length e ∙ length-ends g l n) }
 
   pub extending-more : (next : List ℕ) (i v : ℕ) → g ≤ rights → i < g → ((n : ℕ) → ends ≡ endsOf g l n → v ≡ number (chained g (carriedIn l) (suc n) i) rights)
       → Extending g l ends next i → (next' : List ℕ) → next' ≡ set next i v → Extending g l ends next' (i + 1)
   extending-more next i v few h e K next' d =
-      rw d (record { fills = λ n z. filling-more (endsFrom g l (suc n)) ends next i v (omega arith) (e n z) (K .fills n z) })
+      rw d (record { fills = λ n z. filling-more rights (endsFrom g l (suc n)) ends next i v (omega arith) (e n z) (K .fills n z) })
 
   pub extending-end : (next : List ℕ) (i : ℕ) → g ≤ i → Extending g l ends next i → (n : ℕ) → ends ≡ endsOf g l n → next ≡ endsOf g l (suc n)
   unfolding endsOf
   extending-end next i h K n e =
-      filling-end (endsFrom g l (suc n)) ends next i (K .fills n e)
+      filling-end rights (endsFrom g l (suc n)) ends next i (K .fills n e)
       (λ k a b. ap (λ (x : List ℕ). getD x k 0) e ∙ ends-at g l n k b
       ∙ number-same (chained g (carriedIn l) n k) (chained g (carriedIn l) (suc n) k) rights (λ q _. chained-alone g l n k q (omega arith) ∙ sym (chained-alone g l (suc n) k q (omega arith))))
 
@@ -154,9 +155,9 @@ module _ (g : ℕ) (l ends : List ℕ) where
 pub alone-is : (v i : ℕ) → i < rights → v ≡ insert 0 i → v ≡ number (eqb i) rights
 alone-is v i l e = rw e (number-is (eqb i) (insert 0 i) (insert-below rights 0 i l (pow-pos rights)) (λ q _. has-alone i q))
 
-pub alone-end : (old all : List ℕ) (i : ℕ) → rights ≤ i → Filling (λ k. number (eqb k) rights) old all i → (g : ℕ) (l : List ℕ) → all ≡ endsOf g l 0
+pub alone-end : (old all : List ℕ) (i : ℕ) → rights ≤ i → Filling rights (λ k. number (eqb k) rights) old all i → (g : ℕ) (l : List ℕ) → all ≡ endsOf g l 0
 unfolding endsOf chained
-alone-end old all i h K g l = filling-end (λ k. number (eqb k) rights) old all i K (λ k a b. absurd (omega arith))
+alone-end old all i h K g l = filling-end rights (λ k. number (eqb k) rights) old all i K (λ k a b. absurd (omega arith))
 
 -- ---- the loop of `carried`
 pub ends-more : (g : ℕ) (l next : List ℕ) (n : ℕ) → next ≡ endsOf g l (suc n) → next ≡ endsOf g l (n + 1)
@@ -200,11 +201,11 @@ module _ (sets : List ℕ) (q : ℕ) where
   holding-end set i l K = number-is (λ k. has (getD sets k 0) q) set (K .few) (λ k h. K .done k (omega arith))
 
 -- ---- the loop of `carriers`
-pub turned : (old carried all : List ℕ) (i : ℕ) → rights ≤ i → Filling (λ q. number (λ k. has (getD carried k 0) q) rights) old all i
+pub turned : (old carried all : List ℕ) (i : ℕ) → rights ≤ i → Filling rights (λ q. number (λ k. has (getD carried k 0) q) rights) old all i
     → (g : ℕ) (l : List ℕ) → carried ≡ carriedOf g l → all ≡ carriersOf g l
 unfolding carriedOf carriersOf
 turned old carried all i h K g l e =
-    filling-end (λ q. number (λ k. has (getD carried k 0) q) rights) old all i K (λ k a b. absurd (omega arith))
+    filling-end rights (λ q. number (λ k. has (getD carried k 0) q) rights) old all i K (λ k a b. absurd (omega arith))
     ∙ tabulate-same (λ q. number (λ k. has (getD carried k 0) q) rights) (λ q. number (λ k. reaches g l k q) rights) rights 0
     (λ q _ m. number-same (λ k. has (getD carried k 0) q) (λ k. reaches g l k q) rights
-    (λ k n. ap (λ (x : List ℕ). has (getD x k 0) q) e ∙ ap (λ (x : ℕ). has x q) (getD-table (λ i. number (reaches g l i) rights) k n) ∙ has-number (reaches g l k) rights q (omega arith)))
+    (λ k n. ap (λ (x : List ℕ). has (getD x k 0) q) e ∙ ap (λ (x : ℕ). has x q) (getD-table rights (λ i. number (reaches g l i) rights) k n) ∙ has-number (reaches g l k) rights q (omega arith)))

@@ -24,7 +24,7 @@ use Rattle.protection.proofs.Carrying.{carries-exactly, carries-below, meets-ex
 use Rattle.carries.specs.Bytes.{carriedIn}
 use Rattle.carries.specs.Meeting.{MetBy}
 use Rattle.carries.specs.Closed.{reaches, carriedOf, carriersOf}
-use Rattle.carries.proofs.Sets.{getD-table}
+use Rattle.cases.proofs.Filling.{getD-table}
 
 -- ---- the sets
 module _ (g : ℕ) (l : List ℕ) where
@@ -38,19 +38,19 @@ module _ (g : ℕ) (l : List ℕ) where
 
   pub carried-tells : (i q : ℕ) → i < rights → q < rights → has (getD (carriedOf g l) i 0) q ≡ reaches g l i q
   unfolding carriedOf
-  carried-tells i q h k = ap (λ (x : ℕ). has x q) (getD-table (λ i. number (reaches g l i) rights) i h) ∙ has-number (reaches g l i) rights q k
+  carried-tells i q h k = ap (λ (x : ℕ). has x q) (getD-table rights (λ i. number (reaches g l i) rights) i h) ∙ has-number (reaches g l i) rights q k
 
   pub carriers-tell : (i q : ℕ) → i < rights → q < rights → has (getD (carriersOf g l) q 0) i ≡ reaches g l i q
   unfolding carriersOf
-  carriers-tell i q h k = ap (λ (x : ℕ). has x i) (getD-table (λ q. number (λ i. reaches g l i q) rights) q k) ∙ has-number (λ i. reaches g l i q) rights i h
+  carriers-tell i q h k = ap (λ (x : ℕ). has x i) (getD-table rights (λ q. number (λ i. reaches g l i q) rights) q k) ∙ has-number (λ i. reaches g l i q) rights i h
 
   pub carried-few : (i : ℕ) → i < rights → getD (carriedOf g l) i 0 < 2 ^ rights
   unfolding carriedOf
-  carried-few i h = rw (getD-table (λ i. number (reaches g l i) rights) i h) (number-below (reaches g l i) rights)
+  carried-few i h = rw (getD-table rights (λ i. number (reaches g l i) rights) i h) (number-below (reaches g l i) rights)
 
   pub carriers-few : (q : ℕ) → q < rights → getD (carriersOf g l) q 0 < 2 ^ rights
   unfolding carriersOf
-  carriers-few q h = rw (getD-table (λ q. number (λ i. reaches g l i q) rights) q h) (number-below (λ i. reaches g l i q) rights)
+  carriers-few q h = rw (getD-table rights (λ q. number (λ i. reaches g l i q) rights) q h) (number-below (λ i. reaches g l i q) rights)
 
   system : System
   system = record { rights = g; carried = carriedIn l; commands = [] }
@@ -63,13 +63,13 @@ module _ (g : ℕ) (l : List ℕ) where
   pub carried-below : (i : ℕ) → i < g → g ≤ rights → getD (carriedOf g l) i 0 < 2 ^ g
   unfolding carriedOf
   carried-below i h few =
-      rw (getD-table (λ i. number (reaches g l i) rights) i (omega arith))
+      rw (getD-table rights (λ i. number (reaches g l i) rights) i (omega arith))
       (number-within g (reaches g l i) rights (λ q t. ⊎-elim (λ e. omega arith) (λ b. b .1) (reached-below i q t)))
 
   pub carriers-below : (q : ℕ) → q < g → g ≤ rights → getD (carriersOf g l) q 0 < 2 ^ g
   unfolding carriersOf
   carriers-below q h few =
-      rw (getD-table (λ q. number (λ i. reaches g l i q) rights) q (omega arith))
+      rw (getD-table rights (λ q. number (λ i. reaches g l i q) rights) q (omega arith))
       (number-within g (λ i. reaches g l i q) rights (λ i t. ⊎-elim (λ e. omega arith) (λ b. b .0) (reached-below i q t)))
 
 -- ---- two sets have a right in common

@@ -1,5 +1,5 @@
 // Rights that carry others (document 02, C-19): refusal 44, and carrying through further rights, computed once for a file.
-// One byte for each right: the set of rights that it carries, or of those that carry it.
+// Of each right the set of rights that it carries, or of those that carry it.
 ghost use mathlib.Core.Path.{_≡_};
 ghost use mathlib.Core.List.{List};
 ghost use Prim.Native.Nat.{ℕ, suc, _≤_, _<_};
@@ -11,9 +11,10 @@ ghost use Rattle.carries.specs.Bytes.{carriedIn};
 ghost use Rattle.carries.specs.Refusals.{carriesRefusal};
 ghost use Rattle.carries.specs.Closed.{endsOf, carriedOf, carriersOf};
 use matrix::Matrix;
+use rights::Set;
 
 // The refusal of what rights carry, or 0.
-pub fn refusal(g: u8, carries: [u8; Matrix::RIGHTS as usize]) -> u8
+pub fn refusal(g: u8, carries: [Set; Matrix::RIGHTS as usize]) -> u8
     requires { ⌜ g ≤ rights ⌝ }
     ensures { λ r. ⌜ r ≡ carriesRefusal g carries ⌝ }
 {
@@ -26,12 +27,12 @@ pub fn refusal(g: u8, carries: [u8; Matrix::RIGHTS as usize]) -> u8
 }
 
 // Each right alone: the ends of chains of no link.
-fn alone() -> [u8; Matrix::RIGHTS as usize]
+fn alone() -> [Set; Matrix::RIGHTS as usize]
     ensures { λ r. ⌜ ((g : ℕ) (l : List ℕ) → r ≡ endsOf g l 0) ⌝ }
 {
-    let mut all = [0u8; Matrix::RIGHTS as usize];
+    let mut all = [rights::NONE; Matrix::RIGHTS as usize];
     for i in 0..Matrix::RIGHTS {
-        let set = rights::with_right(0, i);
+        let set = rights::with_right(rights::NONE, i);
         all[i as usize] = set;
     }
     all
@@ -40,15 +41,15 @@ fn alone() -> [u8; Matrix::RIGHTS as usize]
 // The ends of the chains from right i that have one link more than those whose ends are given.
 fn further(
     g: u8,
-    carries: [u8; Matrix::RIGHTS as usize],
-    ends: [u8; Matrix::RIGHTS as usize],
+    carries: [Set; Matrix::RIGHTS as usize],
+    ends: [Set; Matrix::RIGHTS as usize],
     i: u8,
-) -> u8
+) -> Set
     requires { ⌜ (g ≤ rights) × (i < g) ⌝ }
     ensures { λ r. ⌜ ((n : ℕ) → ends ≡ endsOf g carries n → r ≡ number (chained g (carriedIn carries) (suc n) i) rights) ⌝ }
 {
     let links = carries[i as usize];
-    let mut set = rights::with_right(0, i);
+    let mut set = rights::with_right(rights::NONE, i);
     for j in 0..g {
         if rights::holds(links, j) {
             let more = set | ends[j as usize];
@@ -60,9 +61,9 @@ fn further(
 
 fn one_more(
     g: u8,
-    carries: [u8; Matrix::RIGHTS as usize],
-    ends: [u8; Matrix::RIGHTS as usize],
-) -> [u8; Matrix::RIGHTS as usize]
+    carries: [Set; Matrix::RIGHTS as usize],
+    ends: [Set; Matrix::RIGHTS as usize],
+) -> [Set; Matrix::RIGHTS as usize]
     requires { ⌜ g ≤ rights ⌝ }
     ensures { λ r. ⌜ ((n : ℕ) → ends ≡ endsOf g carries n → r ≡ endsOf g carries (suc n)) ⌝ }
 {
@@ -75,7 +76,7 @@ fn one_more(
 }
 
 // Of each right, those that it carries.
-pub fn carried(g: u8, carries: [u8; Matrix::RIGHTS as usize]) -> [u8; Matrix::RIGHTS as usize]
+pub fn carried(g: u8, carries: [Set; Matrix::RIGHTS as usize]) -> [Set; Matrix::RIGHTS as usize]
     requires { ⌜ g ≤ rights ⌝ }
     ensures { λ r. ⌜ r ≡ carriedOf g carries ⌝ }
 {
@@ -88,11 +89,11 @@ pub fn carried(g: u8, carries: [u8; Matrix::RIGHTS as usize]) -> [u8; Matrix::RI
 }
 
 // The rights whose set has right q.
-fn holders(sets: [u8; Matrix::RIGHTS as usize], q: u8) -> u8
+fn holders(sets: [Set; Matrix::RIGHTS as usize], q: u8) -> Set
     requires { ⌜ q < rights ⌝ }
     ensures { λ r. ⌜ r ≡ number (λ i. has (getD sets i 0) q) rights ⌝ }
 {
-    let mut set = 0u8;
+    let mut set = rights::NONE;
     for i in 0..Matrix::RIGHTS {
         if rights::holds(sets[i as usize], q) {
             let more = rights::with_right(set, i);
@@ -103,10 +104,10 @@ fn holders(sets: [u8; Matrix::RIGHTS as usize], q: u8) -> u8
 }
 
 // Of each right, those that carry it, given those that each carries.
-pub fn carriers(carried: [u8; Matrix::RIGHTS as usize]) -> [u8; Matrix::RIGHTS as usize]
+pub fn carriers(carried: [Set; Matrix::RIGHTS as usize]) -> [Set; Matrix::RIGHTS as usize]
     ensures { λ r. ⌜ ((g : ℕ) (l : List ℕ) → carried ≡ carriedOf g l → r ≡ carriersOf g l) ⌝ }
 {
-    let mut all = [0u8; Matrix::RIGHTS as usize];
+    let mut all = [rights::NONE; Matrix::RIGHTS as usize];
     for q in 0..Matrix::RIGHTS {
         let set = holders(carried, q);
         all[q as usize] = set;

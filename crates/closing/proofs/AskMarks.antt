@@ -154,16 +154,16 @@ pub record Asking (p : Policy) (count i : ℕ) (asks : List ℕ) : Type 0 where
   pub within : i ≤ count
   pub asked : AskedBy p asks
 
-pub asking-start : (p : Policy) (count : ℕ) → PolicyFits p → count ≡ p .commands → Asking p count 0 (replicate 32 0)
+pub asking-start : (p : Policy) (count : ℕ) → PolicyFits p → count ≡ p .commands → Asking p count 0 (replicate (4 * rights) 0)
 asking-start p count F e = record {
   fits = F;
   number = e;
   within = omega arith;
-  asked = record { length-is = length-replicate {A = ℕ} 32 0; says = λ e i l t. absurd (clash (has (getD (replicate {A = ℕ} 32 0) e 0) i) (zeros e i l) t) };
+  asked = record { length-is = length-replicate {A = ℕ} (4 * rights) 0; says = λ e i l t. absurd (clash (has (getD (replicate {A = ℕ} (4 * rights) 0) e 0) i) (zeros e i l) t) };
 }
   where
-    zeros : (e i : ℕ) → e < 32 → has (getD (replicate {A = ℕ} 32 0) e 0) i ≡ false
-    zeros e i h = rw (getD-replicate {A = ℕ} 32 e 0 0 h) (has-none i)
+    zeros : (e i : ℕ) → e < 4 * rights → has (getD (replicate {A = ℕ} (4 * rights) 0) e 0) i ≡ false
+    zeros e i h = rw (getD-replicate {A = ℕ} (4 * rights) e 0 0 h) (has-none i)
 
     clash : (b : Bool) → b ≡ false → b ≡ true → ⊥
     clash b x y = let z : _≡_ {A = Bool} true false = cc in let w : _≡_ {A = ℕ} 0 1 = cc in omega arith

@@ -57,27 +57,37 @@ module _ (asks carriers : List ℕ) (k set : ℕ) where
   pub lacking-start : LackingIn asks carriers k set 0
   lacking-start = record { says = λ i t. absurd (clash (has 0 i) (has-none i) t) }
 
-  module _ (mask q : ℕ) (K : LackingIn asks carriers k set mask) (l : q < 8) where
-    pub lacking-more : bitAnd set (getD carriers q 0) ≡ 0 → (new : ℕ) → new ≡ bitOr mask (getD asks (8 * k + q) 0) → LackingIn asks carriers k set new
+  module _ (mask q : ℕ) (K : LackingIn asks carriers k set mask) (l : q < rights) where
+    pub lacking-more : bitAnd set (getD carriers q 0) ≡ 0 → (new : ℕ) → new ≡ bitOr mask (getD asks (rights * k + q) 0) → LackingIn asks carriers k set new
     lacking-more e new f = record {
       says = λ (i : ℕ) (t : has new i ≡ true). ⊎-elim (K .says i)
-          (λ (u : has (getD asks (8 * k + q) 0) i ≡ true). record { right = q; small = l; lacks = e; asked = u })
-          (or-has mask (getD asks (8 * k + q) 0) i (ap (λ (w : ℕ). has w i) (sym f) ∙ t));
+          (λ (u : has (getD asks (rights * k + q) 0) i ≡ true). record { right = q; small = l; lacks = e; asked = u })
+          (or-has mask (getD asks (rights * k + q) 0) i (ap (λ (w : ℕ). has w i) (sym f) ∙ t));
     }
 
     pub lacking-same : (bitAnd set (getD carriers q 0) ≡ 0 → ⊥) → (new : ℕ) → new ≡ mask → LackingIn asks carriers k set new
     lacking-same e new f = subst (LackingIn asks carriers k set) (sym f) K
 
--- ---- the four cells
-pub lacking-four : (asks carriers cells : List ℕ) (s o a b c d : ℕ) → LackingIn asks carriers 0 (getD cells (32 * s + s) 0) a → LackingIn asks carriers 1 (getD cells (32 * s + o) 0) b
-    → LackingIn asks carriers 2 (getD cells (32 * o + s) 0) c → LackingIn asks carriers 3 (getD cells (32 * o + o) 0) d → LackingAt asks carriers cells s o (bitOr (bitOr a b) (bitOr c d))
-lacking-four asks carriers cells s o a b c d A B C D = record {
-  says = λ (i : ℕ) (t : has (bitOr (bitOr a b) (bitOr c d)) i ≡ true).
-      ⊎-elim
-      (λ (u : has (bitOr a b) i ≡ true). ⊎-elim (λ (v : has a i ≡ true). record { cell = 0; few = omega arith; lacks = A .says i v }) (λ (v : has b i ≡ true). record { cell = 1; few = omega arith; lacks = B .says i v }) (or-has a b i u))
-      (λ (u : has (bitOr c d) i ≡ true). ⊎-elim (λ (v : has c i ≡ true). record { cell = 2; few = omega arith; lacks = C .says i v }) (λ (v : has d i ≡ true). record { cell = 3; few = omega arith; lacks = D .says i v }) (or-has c d i u))
-      (or-has (bitOr a b) (bitOr c d) i t);
-}
+-- ---- the four cells, one after the other
+module _ (asks carriers cells : List ℕ) (s o : ℕ) where
+  lacking-also : (k mask a : ℕ) → k < 4 → LackingAt asks carriers cells s o mask → LackingIn asks carriers k (getD cells (names * onSide (k / 2) s o + onSide (k % 2) s o) 0) a
+      → LackingAt asks carriers cells s o (bitOr mask a)
+  lacking-also k mask a l M A = record {
+    says = λ (i : ℕ) (t : has (bitOr mask a) i ≡ true). ⊎-elim (M .says i) (λ (v : has a i ≡ true). record { cell = k; few = l; lacks = A .says i v }) (or-has mask a i t);
+  }
+
+  pub cell-lacking : (a : ℕ) → LackingIn asks carriers 1 (getD cells (names * s + o) 0) a → LackingAt asks carriers cells s o a
+  cell-lacking a A = record { says = λ (i : ℕ) (t : has a i ≡ true). record { cell = 1; few = omega arith; lacks = A .says i t } }
+
+  module _ (mask a : ℕ) (M : LackingAt asks carriers cells s o mask) where
+    pub row-lacking : LackingIn asks carriers 0 (getD cells (names * s + s) 0) a → LackingAt asks carriers cells s o (bitOr mask a)
+    row-lacking = lacking-also 0 mask a (omega arith) M
+
+    pub column-lacking : LackingIn asks carriers 3 (getD cells (names * o + o) 0) a → LackingAt asks carriers cells s o (bitOr mask a)
+    column-lacking = lacking-also 3 mask a (omega arith) M
+
+    pub turned-lacking : LackingIn asks carriers 2 (getD cells (names * o + s) 0) a → LackingAt asks carriers cells s o (bitOr mask a)
+    turned-lacking = lacking-also 2 mask a (omega arith) M
 
 pub left-says : (which lacking : ℕ) → lacking < 2 ^ 32 → Says (bitAnd which ((2 ^ 32 - 1) - lacking)) (leftIn which lacking)
 unfolding leftIn

@@ -8,9 +8,9 @@ use native.Mathlib.Omega.{arith}
 use borrow.Author.Tests.{lt-ltb, le-ltb}
 use lib.Dec.{T, ltb}
 use lib.ListN.{getD}
-use Rattle.rights.specs.Rights.{has}
+use Rattle.rights.specs.Rights.{width, has}
 use Rattle.rights.proofs.Sets.{has-none}
-use Rattle.protection.specs.Limits.{names, rights}
+use Rattle.protection.specs.Limits.{names}
 use Rattle.protection.specs.State.{State}
 use Rattle.protection.specs.Command.{System, Call}
 use Rattle.protection.specs.Execution.{takeOut}
@@ -99,7 +99,7 @@ module _ (p : Policy) (reserved : ℕ) (m : Matrix) (t : Tables) (r : ℕ) where
       pub cells-end : 1024 ≤ c → (z : Pair) → pairOf z ≡ [] → pairOf z ≡ closing S R r m₀ (stateOf m)
       cells-end l z e = e ∙ closing-none c l (first-end hasPair 1024 firstPair c l (K .rest))
 
-      pub cells-right : r < rights
+      pub cells-right : r < width
       cells-right = omega (arith, K .asked .right, K .asked .fits .few-rights)
 
       module _ (l : c < 1024) where

@@ -15,6 +15,7 @@ ghost use Rattle.closing.specs.Asks.{sideOf, AsksMarked, AskedBy, Lackin
 use commands::Command;
 use matrix::Matrix;
 use policy::Policy;
+use rights::Set;
 
 // 0 for the operation's first parameter, 1 for its second, else 2.
 fn side(b: u8, x: u8, y: u8) -> usize
@@ -58,7 +59,7 @@ fn mark_asks(asks: &mut [u32; 4 * Matrix::RIGHTS as usize], c: Command, i: usize
     }
 }
 
-// Digit i of element 8 × k + q is set if command i asks for right q in cell k of the four.
+// Digit i of element rights × k + q is set if command i asks for right q in cell k of the four.
 pub fn asked_by(p: Policy) -> [u32; 4 * Matrix::RIGHTS as usize]
     requires { ⌜ PolicyFits p ⌝ }
     ensures { λ r. ⌜ AskedBy p r ⌝ }
@@ -75,9 +76,9 @@ pub fn asked_by(p: Policy) -> [u32; 4 * Matrix::RIGHTS as usize]
 // The commands that ask in cell k of the four for a right that no right in the cell, which is the set, carries.
 fn lacking_in<'a>(
     asks: &'a [u32; 4 * Matrix::RIGHTS as usize],
-    carriers: &'a [u8; Matrix::RIGHTS as usize],
+    carriers: &'a [Set; Matrix::RIGHTS as usize],
     k: usize,
-    set: u8,
+    set: Set,
 ) -> u32
     requires { ⌜ k < 4 ⌝ }
     ensures { λ r. ⌜ LackingIn (now (asks .entry)) (now (carriers .entry)) k set r ⌝ }
@@ -91,22 +92,31 @@ fn lacking_in<'a>(
     mask
 }
 
-// The commands that ask in one of the four cells of s and o for a right that no right in it carries.
+// Commands that ask in one of the four cells of s and o for a right that no right in it carries: all of them, or as many as leave none of the mask `which`.
 pub fn lacking_at<'a>(
     asks: &'a [u32; 4 * Matrix::RIGHTS as usize],
-    carriers: &'a [u8; Matrix::RIGHTS as usize],
-    cells: &'a [u8; Matrix::NAMES * Matrix::NAMES],
+    carriers: &'a [Set; Matrix::RIGHTS as usize],
+    cells: &'a [Set; Matrix::NAMES * Matrix::NAMES],
+    which: u32,
     s: usize,
     o: usize,
 ) -> u32
     requires { ⌜ (s < names) × (o < names) ⌝ }
     ensures { λ r. ⌜ LackingAt (now (asks .entry)) (now (carriers .entry)) (now (cells .entry)) s o r ⌝ }
 {
-    let a = lacking_in(asks, carriers, 0, cells[Matrix::NAMES * s + s]);
-    let b = lacking_in(asks, carriers, 1, cells[Matrix::NAMES * s + o]);
-    let c = lacking_in(asks, carriers, 2, cells[Matrix::NAMES * o + s]);
-    let d = lacking_in(asks, carriers, 3, cells[Matrix::NAMES * o + o]);
-    (a | b) | (c | d)
+    let cell = lacking_in(asks, carriers, 1, cells[Matrix::NAMES * s + o]);
+    if left(which, cell) == 0 {
+        return cell;
+    }
+    let row = cell | lacking_in(asks, carriers, 0, cells[Matrix::NAMES * s + s]);
+    if left(which, row) == 0 {
+        return row;
+    }
+    let column = row | lacking_in(asks, carriers, 3, cells[Matrix::NAMES * o + o]);
+    if left(which, column) == 0 {
+        return column;
+    }
+    column | lacking_in(asks, carriers, 2, cells[Matrix::NAMES * o + s])
 }
 
 // The commands of the mask that are not lacking.

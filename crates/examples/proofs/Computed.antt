@@ -1,6 +1,7 @@
 -- What the cases are computed by: whoever unfolds `computed` unfolds all that its line names. Assumes nothing.
 use Rattle.cases.specs.Cases.{iterate, all, any}
 use Rattle.rights.specs.Rights.{number}
+use Rattle.rights.specs.Bytes.{setsIn, bytesOf}
 use Rattle.protection.specs.Size.{count}
 use Rattle.protection.specs.Carrying.{chained, meets}
 use Rattle.protection.specs.Judge.{lowestFree, rounds, judgeBeside}
@@ -22,5 +23,5 @@ use Rattle.sheets.specs.Sheets.{sheetRefusal}
 use Rattle.listing.specs.Listing.{digits}
 
 unfoldable pub computed : Unit {0}
-unfolding stepRead iterate all any number lowestFree rounds count chained meets judgeBeside kindsOf cellsOf cellFits matrixRefusal carriesRefusal startOf headerRefusal pairsRefusal sizesRefusal conditionFits operationFits commandRefusal commandOf commandsRefusal commandTable policyOf written replayFrom callerRefusal listRefusal listedIn trustedRefusal sheetRefusal digits
+unfolding stepRead iterate all any number setsIn bytesOf lowestFree rounds count chained meets judgeBeside kindsOf cellsOf cellFits matrixRefusal carriesRefusal startOf headerRefusal pairsRefusal sizesRefusal conditionFits operationFits commandRefusal commandOf commandsRefusal commandTable policyOf written replayFrom callerRefusal listRefusal listedIn trustedRefusal sheetRefusal digits
 computed = tt

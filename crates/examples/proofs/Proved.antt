@@ -11,6 +11,7 @@ use Rattle.examples.specs.Needs.{needCases}
 use Rattle.examples.specs.Trusted.{trustedCases}
 use Rattle.examples.specs.Sheets.{sheetCases}
 use Rattle.examples.specs.Carrying.{metCases, carriedReplayCases, carriedJudgeCases, carriedQuestionCases}
+use Rattle.examples.specs.Wide.{wideRunCases, wideQuestionCases, largestCases}
 use Rattle.examples.specs.Table.{parts, table, AllCases}
 use Rattle.examples.proofs.Computed.{computed}
 use Rattle.examples.proofs.Tests.{failing, NoneFail, none-fail}
@@ -92,6 +93,18 @@ carriedQuestionCases-hold : failing carriedQuestionCases ≡ []
 unfolding computed
 carriedQuestionCases-hold = refl
 
+wideRunCases-hold : failing wideRunCases ≡ []
+unfolding computed
+wideRunCases-hold = refl
+
+wideQuestionCases-hold : failing wideQuestionCases ≡ []
+unfolding computed
+wideQuestionCases-hold = refl
+
+largestCases-hold : failing largestCases ≡ []
+unfolding computed
+largestCases-hold = refl
+
 -- ---- the claim
 -- a part before those behind it
 infixr 40 _▸_
@@ -99,7 +112,7 @@ abbrev _▸_ : {A B : Type 0} → A → B → A × B
 a ▸ b = (a, b)
 
 none : NoneFail parts
-none = slipCases-hold ▸ headerCases-hold ▸ matrixCases-hold ▸ carryCases-hold ▸ ruleCases-hold ▸ refusedCases-hold ▸ doneCases-hold ▸ replayCases-hold ▸ callerCases-hold ▸ roundCases-hold ▸ createCases-hold ▸ closingCases-hold ▸ needCases-hold ▸ trustedCases-hold ▸ sheetCases-hold ▸ metCases-hold ▸ carriedReplayCases-hold ▸ carriedJudgeCases-hold ▸ carriedQuestionCases-hold ▸ tt
+none = slipCases-hold ▸ headerCases-hold ▸ matrixCases-hold ▸ carryCases-hold ▸ ruleCases-hold ▸ refusedCases-hold ▸ doneCases-hold ▸ replayCases-hold ▸ callerCases-hold ▸ roundCases-hold ▸ createCases-hold ▸ closingCases-hold ▸ needCases-hold ▸ trustedCases-hold ▸ sheetCases-hold ▸ metCases-hold ▸ carriedReplayCases-hold ▸ carriedJudgeCases-hold ▸ carriedQuestionCases-hold ▸ wideRunCases-hold ▸ wideQuestionCases-hold ▸ largestCases-hold ▸ tt
 
 pub all-cases : AllCases table
 all-cases = record { named = refl; every-refusal = refl; hold = none-fail parts none }

@@ -1,4 +1,4 @@
--- A row's claim as a test that computes, with a number z in place of its file's refusal; and the rows that fail, by their names. Assumes nothing.
+-- A row's claim as a test that computes, with a number z in place of its file's refusal and m in place of its state; and the rows that fail, by their names. Assumes nothing.
 use Prim.Native.Nat.{ℕ, _%_}
 use Prim.Native.String.{String}
 use mathlib.Core.Path.{_≡_, refl, ap, ap₂, subst, _∙_}
@@ -9,30 +9,36 @@ use lib.Dec.{T, eqb, ltb, leb, eqb→eq}
 use lib.ListN.{length, take, drop}
 use Rattle.cases.specs.Cases.{pick}
 use Rattle.cases.proofs.Bools.{and-left, and-right}
+use Rattle.protection.specs.State.{State}
 use Rattle.protection.specs.Command.{Call}
+use Rattle.protection.specs.Execution.{bounded, Outcome, execute}
+use Rattle.protection.specs.Judge.{Progress, allRounds, Verdict, judge}
+use Rattle.protection.specs.Need.{heldOf}
+use Rattle.protection.specs.Part.{judgePart}
 use Rattle.layout.specs.File.{rightsOf}
 use Rattle.layout.specs.Refusals.{orElse}
 use Rattle.policy.specs.Refusals.{refusal}
 use Rattle.policy.specs.Contents.{policyOf, fileState, fileSystem}
-use Rattle.update.specs.Files.{fileOutcome, codeOf, rewritten, runCode, runFile}
+use Rattle.update.specs.Files.{codeOf, rewritten, runCode, runFile}
 use Rattle.trace.specs.Traces.{calls, stepsIn}
 use Rattle.trace.specs.Replays.{replayFrom, fileReplay}
 use Rattle.trace.specs.declared.Replay.{Replay}
 use Rattle.trace.specs.declared.Replay.the-variants.{NoLeak, Leak, Refused as RefusedAt}
-use Rattle.safety.specs.Judgement.{callerRefusal, judgeRefusal, fileVerdict, judgementBy, fileJudgement, filled, bufferBy, fileBuffer}
+use Rattle.safety.specs.Judgement.{callerRefusal, judgeRefusal, judgementBy, fileJudgement, filled, bufferBy, fileBuffer}
 use Rattle.safety.specs.declared.Judgement.{Judgement}
 use Rattle.safety.specs.declared.Judgement.the-variants.{Refused, Safe, Unsafe}
+use Rattle.goals.specs.Goals.{cellsIn}
 use Rattle.questions.specs.Refusals.{sizeRefusal}
-use Rattle.needs.specs.Needed.{listRefusal, needRefusal, fileRounds, needOf, fileNeed, needBuffer}
+use Rattle.needs.specs.Needed.{listRefusal, needRefusal, needOf, fileNeed, needBuffer}
 use Rattle.needs.specs.declared.Need.{Need}
 use Rattle.needs.specs.declared.Need.the-variants.{Refused as NeedRefused, Held, Never}
-use Rattle.parts.specs.Parts.{trustedRefusal, partRefusal, partVerdict, partJudgement, partBuffer}
+use Rattle.parts.specs.Parts.{leftOut, trustedRefusal, partRefusal, partJudgement, partBuffer}
 use Rattle.sheets.specs.Sheets.{sheetLimit, sheetRefusal, entryOf, answers, partLength, partsFilled, sheetAfter, bufferAfter}
 use Rattle.sheets.specs.declared.Entry.{Entry}
 use Rattle.listing.specs.Listing.{printed, bufferBytes, listing}
 use Rattle.examples.specs.Build.{joined}
 use Rattle.examples.specs.Cases.{Case, checks, runs, replays, judges, judgesPart, needs, asks, prints, Holds, Row, AllHold}
-use Rattle.examples.proofs.Walk.{walkedRefusal, refusal-walked}
+use Rattle.examples.proofs.Walk.{walkedRefusal, refusal-walked, walkedState, state-walked}
 
 -- ---- equality, as a test
 abbrev sameBytes : List ℕ → List ℕ → Bool
@@ -138,65 +144,77 @@ same-sheet [] (q ∷ t) h = absurd h
 same-sheet (p ∷ s) [] h = absurd h
 same-sheet (p ∷ s) (q ∷ t) h = ap₂ _∷_ (same-question p q (and-left (sameQuestion p q) (sameSheet s t) h)) (same-sheet s t (and-right (sameQuestion p q) (sameSheet s t) h))
 
--- ---- the calls, with a number z in place of the file's refusal
-abbrev codeAt : ℕ → List ℕ → Call → ℕ
-codeAt z f x = orElse z (codeOf (fileOutcome f x))
+-- ---- the calls, with a number z in place of the file's refusal and m in place of its state
+abbrev outcomeAt : State → List ℕ → Call → Outcome
+outcomeAt m f x = execute bounded (fileSystem f) m x
 
-abbrev fileAt : ℕ → List ℕ → Call → List ℕ
-fileAt z f x = pick (eqb z 0) (rewritten f (fileOutcome f x)) f
+abbrev codeAt : ℕ → State → List ℕ → Call → ℕ
+codeAt z m f x = orElse z (codeOf (outcomeAt m f x))
 
-abbrev replayAt : ℕ → List ℕ → List ℕ → ℕ → Replay
-replayAt z f t r =
+abbrev fileAt : ℕ → State → List ℕ → Call → List ℕ
+fileAt z m f x = pick (eqb z 0) (rewritten f (outcomeAt m f x)) f
+
+abbrev replayAt : ℕ → State → List ℕ → List ℕ → ℕ → Replay
+replayAt z m f t r =
     pick (eqb z 0)
     (pick (leb (rightsOf f) r) (RefusedAt 21 0)
-    (pick (eqb (length t % 5) 0) (replayFrom (fileSystem f) r (calls t (stepsIn t)) 0 (fileState f))
+    (pick (eqb (length t % 5) 0) (replayFrom (fileSystem f) r (calls t (stepsIn t)) 0 m)
     (RefusedAt 31 0)))
     (RefusedAt z 0)
 
-abbrev judgeRefusalAt : ℕ → List ℕ → ℕ → ℕ → ℕ
-judgeRefusalAt z f r n = orElse z (callerRefusal (fileSystem f) (fileState f) r n)
+abbrev judgeRefusalAt : ℕ → State → List ℕ → ℕ → ℕ → ℕ
+judgeRefusalAt z m f r n = orElse z (callerRefusal (fileSystem f) m r n)
 
-abbrev judgementAt : ℕ → List ℕ → ℕ → ℕ → Judgement
-judgementAt z f r n = judgementBy (judgeRefusalAt z f r n) (fileVerdict f r)
+abbrev verdictAt : State → List ℕ → ℕ → Verdict
+verdictAt m f r = judge (fileSystem f) r m
 
-abbrev bufferAt : ℕ → List ℕ → ℕ → List ℕ → List ℕ
-bufferAt z f r b = bufferBy (judgeRefusalAt z f r (length b)) (fileVerdict f r) b
+abbrev judgementAt : ℕ → State → List ℕ → ℕ → ℕ → Judgement
+judgementAt z m f r n = judgementBy (judgeRefusalAt z m f r n) (verdictAt m f r)
 
-abbrev partRefusalAt : ℕ → List ℕ → ℕ → List ℕ → ℕ → ℕ
-partRefusalAt z f r l n = orElse (judgeRefusalAt z f r n) (trustedRefusal (fileState f) l)
+abbrev bufferAt : ℕ → State → List ℕ → ℕ → List ℕ → List ℕ
+bufferAt z m f r b = bufferBy (judgeRefusalAt z m f r (length b)) (verdictAt m f r) b
 
-abbrev partJudgementAt : ℕ → List ℕ → ℕ → List ℕ → ℕ → Judgement
-partJudgementAt z f r l n = judgementBy (partRefusalAt z f r l n) (partVerdict f r l)
+abbrev partVerdictAt : State → List ℕ → ℕ → List ℕ → Verdict
+partVerdictAt m f r l = judgePart (fileSystem f) (leftOut l) r m
 
-abbrev partBufferAt : ℕ → List ℕ → ℕ → List ℕ → List ℕ → List ℕ
-partBufferAt z f r l b = bufferBy (partRefusalAt z f r l (length b)) (partVerdict f r l) b
+abbrev partRefusalAt : ℕ → State → List ℕ → ℕ → List ℕ → ℕ → ℕ
+partRefusalAt z m f r l n = orElse (judgeRefusalAt z m f r n) (trustedRefusal m l)
 
-abbrev needRefusalAt : ℕ → List ℕ → List ℕ → ℕ → ℕ
-needRefusalAt z f l n = orElse z (orElse (sizeRefusal (fileSystem f) (fileState f) n) (listRefusal (fileSystem f) (fileState f) l))
+abbrev partJudgementAt : ℕ → State → List ℕ → ℕ → List ℕ → ℕ → Judgement
+partJudgementAt z m f r l n = judgementBy (partRefusalAt z m f r l n) (partVerdictAt m f r l)
 
-abbrev needAt : ℕ → List ℕ → List ℕ → ℕ → Need
-needAt z f l n = pick (eqb (needRefusalAt z f l n) 0) (needOf (fileRounds f l)) (NeedRefused (needRefusalAt z f l n))
+abbrev partBufferAt : ℕ → State → List ℕ → ℕ → List ℕ → List ℕ → List ℕ
+partBufferAt z m f r l b = bufferBy (partRefusalAt z m f r l (length b)) (partVerdictAt m f r l) b
 
-abbrev needBufferAt : ℕ → List ℕ → List ℕ → List ℕ → List ℕ
-needBufferAt z f l b = pick (eqb (needRefusalAt z f l (length b)) 0) (filled (fileRounds f l .steps) b) b
+abbrev roundsAt : State → List ℕ → List ℕ → Progress
+roundsAt m f l = allRounds (fileSystem f) (heldOf (cellsIn l)) m
 
-abbrev answersAt : ℕ → List ℕ → ℕ → List Entry → List Entry
-answersAt z f k [] = []
-answersAt z f k (q ∷ s) = entryOf (q .right) (judgementAt z f (q .right) k) ∷ answersAt z f k s
+abbrev needRefusalAt : ℕ → State → List ℕ → List ℕ → ℕ → ℕ
+needRefusalAt z m f l n = orElse z (orElse (sizeRefusal (fileSystem f) m n) (listRefusal (fileSystem f) m l))
 
-abbrev partsAt : ℕ → List ℕ → ℕ → List Entry → List ℕ → List ℕ
-partsAt z f k [] b = b
-partsAt z f k (q ∷ s) b = bufferAt z f (q .right) (take k b) ++ partsAt z f k s (drop k b)
+abbrev needAt : ℕ → State → List ℕ → List ℕ → ℕ → Need
+needAt z m f l n = pick (eqb (needRefusalAt z m f l n) 0) (needOf (roundsAt m f l)) (NeedRefused (needRefusalAt z m f l n))
 
-abbrev sheetAt : ℕ → List ℕ → List Entry → List ℕ → List Entry
-sheetAt z f s b = pick (ltb sheetLimit (length s)) s (answersAt z f (partLength s b) s)
+abbrev needBufferAt : ℕ → State → List ℕ → List ℕ → List ℕ → List ℕ
+needBufferAt z m f l b = pick (eqb (needRefusalAt z m f l (length b)) 0) (filled (roundsAt m f l .steps) b) b
 
-abbrev sheetBufferAt : ℕ → List ℕ → List Entry → List ℕ → List ℕ
-sheetBufferAt z f s b = pick (ltb sheetLimit (length s)) b (partsAt z f (partLength s b) s b)
+abbrev answersAt : ℕ → State → List ℕ → ℕ → List Entry → List Entry
+answersAt z m f k [] = []
+answersAt z m f k (q ∷ s) = entryOf (q .right) (judgementAt z m f (q .right) k) ∷ answersAt z m f k s
 
-abbrev listingAt : ℕ → List ℕ → List ℕ
-listingAt z [] = listing []
-listingAt z (r ∷ f) = printed (policyOf f) (judgementAt z f r bufferBytes) (fileVerdict f r .steps)
+abbrev partsAt : ℕ → State → List ℕ → ℕ → List Entry → List ℕ → List ℕ
+partsAt z m f k [] b = b
+partsAt z m f k (q ∷ s) b = bufferAt z m f (q .right) (take k b) ++ partsAt z m f k s (drop k b)
+
+abbrev sheetAt : ℕ → State → List ℕ → List Entry → List ℕ → List Entry
+sheetAt z m f s b = pick (ltb sheetLimit (length s)) s (answersAt z m f (partLength s b) s)
+
+abbrev sheetBufferAt : ℕ → State → List ℕ → List Entry → List ℕ → List ℕ
+sheetBufferAt z m f s b = pick (ltb sheetLimit (length s)) b (partsAt z m f (partLength s b) s b)
+
+abbrev listingAt : ℕ → State → List ℕ → List ℕ
+listingAt z m [] = listing []
+listingAt z m (r ∷ f) = printed (policyOf f) (judgementAt z m f r bufferBytes) (verdictAt m f r .steps)
 
 -- ---- a row
 abbrev behind : List ℕ → List ℕ
@@ -213,68 +231,71 @@ fileIn (needs f l b answer b') = f
 fileIn (asks f s b r s' b') = f
 fileIn (prints input out) = behind input
 
-abbrev testAt : ℕ → Case → Bool
-testAt z (checks f n) = eqb n z
-testAt z (runs f x n f') = eqb n (codeAt z f x) && sameBytes f' (fileAt z f x)
-testAt z (replays f t r answer) = sameReplay answer (replayAt z f t r)
-testAt z (judges f r b answer b') = sameJudgement answer (judgementAt z f r (length b)) && sameBytes b' (bufferAt z f r b)
-testAt z (judgesPart f r l b answer b') = sameJudgement answer (partJudgementAt z f r l (length b)) && sameBytes b' (partBufferAt z f r l b)
-testAt z (needs f l b answer b') = sameNeed answer (needAt z f l (length b)) && sameBytes b' (needBufferAt z f l b)
-testAt z (asks f s b r s' b') = eqb r (sheetRefusal s) && (sameSheet s' (sheetAt z f s b) && sameBytes b' (sheetBufferAt z f s b))
-testAt z (prints input out) = sameBytes out (listingAt z input)
+abbrev testAt : ℕ → State → Case → Bool
+testAt z m (checks f n) = eqb n z
+testAt z m (runs f x n f') = eqb n (codeAt z m f x) && sameBytes f' (fileAt z m f x)
+testAt z m (replays f t r answer) = sameReplay answer (replayAt z m f t r)
+testAt z m (judges f r b answer b') = sameJudgement answer (judgementAt z m f r (length b)) && sameBytes b' (bufferAt z m f r b)
+testAt z m (judgesPart f r l b answer b') = sameJudgement answer (partJudgementAt z m f r l (length b)) && sameBytes b' (partBufferAt z m f r l b)
+testAt z m (needs f l b answer b') = sameNeed answer (needAt z m f l (length b)) && sameBytes b' (needBufferAt z m f l b)
+testAt z m (asks f s b r s' b') = eqb r (sheetRefusal s) && (sameSheet s' (sheetAt z m f s b) && sameBytes b' (sheetBufferAt z m f s b))
+testAt z m (prints input out) = sameBytes out (listingAt z m input)
 
-printed-is : (input : List ℕ) → listingAt (refusal (behind input)) input ≡ listing input
+printed-is : (input : List ℕ) → listingAt (refusal (behind input)) (fileState (behind input)) input ≡ listing input
 unfolding judgeRefusal fileJudgement
 printed-is [] = refl
 printed-is (r ∷ f) = refl
 
-answers-are : (f : List ℕ) (k : ℕ) (s : List Entry) → answersAt (refusal f) f k s ≡ answers f k s
+answers-are : (f : List ℕ) (k : ℕ) (s : List Entry) → answersAt (refusal f) (fileState f) f k s ≡ answers f k s
 unfolding judgeRefusal fileJudgement
 answers-are f k [] = refl
-answers-are f k (q ∷ s) = ap (λ (t : List Entry). entryOf (q .right) (judgementAt (refusal f) f (q .right) k) ∷ t) (answers-are f k s)
+answers-are f k (q ∷ s) = ap (λ (t : List Entry). entryOf (q .right) (judgementAt (refusal f) (fileState f) f (q .right) k) ∷ t) (answers-are f k s)
 
-parts-are : (f : List ℕ) (k : ℕ) (s : List Entry) (b : List ℕ) → partsAt (refusal f) f k s b ≡ partsFilled f k s b
+parts-are : (f : List ℕ) (k : ℕ) (s : List Entry) (b : List ℕ) → partsAt (refusal f) (fileState f) f k s b ≡ partsFilled f k s b
 unfolding judgeRefusal fileBuffer
 parts-are f k [] b = refl
-parts-are f k (q ∷ s) b = ap (λ (t : List ℕ). bufferAt (refusal f) f (q .right) (take k b) ++ t) (parts-are f k s (drop k b))
+parts-are f k (q ∷ s) b = ap (λ (t : List ℕ). bufferAt (refusal f) (fileState f) f (q .right) (take k b) ++ t) (parts-are f k s (drop k b))
 
-holds : (c : Case) → T (testAt (refusal (fileIn c)) c) → Holds c
+holds : (c : Case) → T (testAt (refusal (fileIn c)) (fileState (fileIn c)) c) → Holds c
 unfolding runCode runFile fileReplay judgeRefusal fileJudgement fileBuffer partRefusal partJudgement partBuffer needRefusal fileNeed needBuffer sheetAfter bufferAfter
 holds (checks f n) t = eqb→eq n (refusal f) t
 holds (runs f x n f') t =
-    let a = eqb n (codeAt (refusal f) f x) in
-    let b = sameBytes f' (fileAt (refusal f) f x) in
-    record { answer-is = eqb→eq n (codeAt (refusal f) f x) (and-left a b t); file-is = same-bytes f' (fileAt (refusal f) f x) (and-right a b t) }
-holds (replays f t r answer) s = same-replay answer (replayAt (refusal f) f t r) s
+    let a = eqb n (codeAt (refusal f) (fileState f) f x) in
+    let b = sameBytes f' (fileAt (refusal f) (fileState f) f x) in
+    record { answer-is = eqb→eq n (codeAt (refusal f) (fileState f) f x) (and-left a b t); file-is = same-bytes f' (fileAt (refusal f) (fileState f) f x) (and-right a b t) }
+holds (replays f t r answer) s = same-replay answer (replayAt (refusal f) (fileState f) f t r) s
 holds (judges f r b answer b') t =
-    let c = sameJudgement answer (judgementAt (refusal f) f r (length b)) in
-    let d = sameBytes b' (bufferAt (refusal f) f r b) in
-    record { answer-is = same-judgement answer (judgementAt (refusal f) f r (length b)) (and-left c d t); buffer-is = same-bytes b' (bufferAt (refusal f) f r b) (and-right c d t) }
+    let c = sameJudgement answer (judgementAt (refusal f) (fileState f) f r (length b)) in
+    let d = sameBytes b' (bufferAt (refusal f) (fileState f) f r b) in
+    record { answer-is = same-judgement answer (judgementAt (refusal f) (fileState f) f r (length b)) (and-left c d t); buffer-is = same-bytes b' (bufferAt (refusal f) (fileState f) f r b) (and-right c d t) }
 holds (judgesPart f r l b answer b') t =
-    let c = sameJudgement answer (partJudgementAt (refusal f) f r l (length b)) in
-    let d = sameBytes b' (partBufferAt (refusal f) f r l b) in
-    record { answer-is = same-judgement answer (partJudgementAt (refusal f) f r l (length b)) (and-left c d t); buffer-is = same-bytes b' (partBufferAt (refusal f) f r l b) (and-right c d t) }
+    let c = sameJudgement answer (partJudgementAt (refusal f) (fileState f) f r l (length b)) in
+    let d = sameBytes b' (partBufferAt (refusal f) (fileState f) f r l b) in
+    record { answer-is = same-judgement answer (partJudgementAt (refusal f) (fileState f) f r l (length b)) (and-left c d t); buffer-is = same-bytes b' (partBufferAt (refusal f) (fileState f) f r l b) (and-right c d t) }
 holds (needs f l b answer b') t =
-    let c = sameNeed answer (needAt (refusal f) f l (length b)) in
-    let d = sameBytes b' (needBufferAt (refusal f) f l b) in
-    record { answer-is = same-need answer (needAt (refusal f) f l (length b)) (and-left c d t); buffer-is = same-bytes b' (needBufferAt (refusal f) f l b) (and-right c d t) }
+    let c = sameNeed answer (needAt (refusal f) (fileState f) f l (length b)) in
+    let d = sameBytes b' (needBufferAt (refusal f) (fileState f) f l b) in
+    record { answer-is = same-need answer (needAt (refusal f) (fileState f) f l (length b)) (and-left c d t); buffer-is = same-bytes b' (needBufferAt (refusal f) (fileState f) f l b) (and-right c d t) }
 holds (asks f s b r s' b') t =
     let c = eqb r (sheetRefusal s) in
-    let d = sameSheet s' (sheetAt (refusal f) f s b) in
-    let e = sameBytes b' (sheetBufferAt (refusal f) f s b) in
+    let d = sameSheet s' (sheetAt (refusal f) (fileState f) f s b) in
+    let e = sameBytes b' (sheetBufferAt (refusal f) (fileState f) f s b) in
     record {
       code-is = eqb→eq r (sheetRefusal s) (and-left c (d && e) t);
-      sheet-is = same-sheet s' (sheetAt (refusal f) f s b) (and-left d e (and-right c (d && e) t)) ∙ ap (pick (ltb sheetLimit (length s)) s) (answers-are f (partLength s b) s);
-      buffer-is = same-bytes b' (sheetBufferAt (refusal f) f s b) (and-right d e (and-right c (d && e) t)) ∙ ap (pick (ltb sheetLimit (length s)) b) (parts-are f (partLength s b) s b);
+      sheet-is = same-sheet s' (sheetAt (refusal f) (fileState f) f s b) (and-left d e (and-right c (d && e) t)) ∙ ap (pick (ltb sheetLimit (length s)) s) (answers-are f (partLength s b) s);
+      buffer-is = same-bytes b' (sheetBufferAt (refusal f) (fileState f) f s b) (and-right d e (and-right c (d && e) t)) ∙ ap (pick (ltb sheetLimit (length s)) b) (parts-are f (partLength s b) s b);
     }
-holds (prints input out) t = same-bytes out (listingAt (refusal (behind input)) input) t ∙ printed-is input
+holds (prints input out) t = same-bytes out (listingAt (refusal (behind input)) (fileState (behind input)) input) t ∙ printed-is input
 
 -- ---- the rows that fail
 abbrev test : Case → Bool
-test c = testAt (walkedRefusal (fileIn c)) c
+test c = testAt (walkedRefusal (fileIn c)) (walkedState (fileIn c)) c
 
 tested : (c : Case) → T (test c) → Holds c
-tested c t = holds c (subst (λ (z : ℕ). T (testAt z c)) (refusal-walked (fileIn c)) t)
+tested c t =
+    holds c
+    (subst (λ (m : State). T (testAt (refusal (fileIn c)) m c)) (state-walked (fileIn c))
+    (subst (λ (z : ℕ). T (testAt z (walkedState (fileIn c)) c)) (refusal-walked (fileIn c)) t))
 
 abbrev pub failing : List Row → List String
 failing [] = []

@@ -1,31 +1,75 @@
--- A file's refusal, computed with one walk over its 1,024 cells, where the definition looks each of them up from the front. Assumes nothing.
+-- A file's refusal and its state, computed with one walk over the bytes of its 1,024 cells, where the definition looks each of them up from the front. Assumes nothing.
 use Prim.Native.Nat.{ℕ, zero, suc, _+_, _*_, _/_, _%_, _^_}
 use native.Mathlib.Nat.{zero-add, add-zero, add-suc, suc-add, one-le-pow}
 use native.Mathlib.Omega.{arith}
-use mathlib.Core.Path.{_≡_, refl, sym, ap, subst, _∙_}
+use mathlib.Core.Path.{_≡_, refl, sym, ap, ap₂, subst, _∙_}
 use mathlib.Core.Bool.{Bool, true, false}
 use mathlib.Core.List.{List, [], _∷_}
 use lib.Dec.{eqb, ltb}
 use lib.ListN.{getD}
 use borrow.Author.Tests.{eqb-true, lt-ltb, le-ltb}
-use Rattle.cases.specs.Cases.{pick, all}
+use Rattle.cases.specs.Cases.{pick, all, tabulate}
 use Rattle.cases.proofs.Loops.{all-intro}
 use Rattle.rights.specs.Rights.{within}
+use Rattle.rights.specs.Bytes.{setBytes, byteValues, setIn, setsIn}
 use Rattle.protection.specs.Limits.{names}
-use Rattle.matrix.specs.Bytes.{inside}
+use Rattle.protection.specs.State.{State}
+use Rattle.matrix.specs.Bytes.{inside, view}
 use Rattle.matrix.specs.Refusals.{kindFits, cellFits, matrixRefusal}
-use Rattle.layout.specs.File.{rightsOf, kindsIn, cellsIn, carriesIn, commandsOf}
+use Rattle.layout.specs.File.{rightsOf, section, kindsIn, cellsIn, carriesIn, commandsOf}
 use Rattle.layout.specs.Refusals.{orElse, headerRefusal, pairsRefusal, sizesRefusal}
 use Rattle.carries.specs.Refusals.{carriesRefusal}
 use Rattle.policy.specs.Refusals.{commandsRefusal, refusal}
+use Rattle.policy.specs.Contents.{fileState}
 
--- a test holds at n bytes of a list, and at their places from j on
+-- ---- the sets that a list's bytes are
+-- the first n sets, two bytes at a time
+abbrev pub setsWalked : ℕ → List ℕ → List ℕ
+setsWalked zero l = []
+setsWalked (suc n) [] = 0 ∷ setsWalked n []
+setsWalked (suc n) (x ∷ []) = x ∷ setsWalked n []
+setsWalked (suc n) (x ∷ y ∷ l) = (x + byteValues * y) ∷ setsWalked n l
+
+-- a set is one of those behind the first two bytes
+set-behind : (l k : List ℕ) (i : ℕ) → ((c : ℕ) → getD l (suc (suc c)) 0 ≡ getD k c 0) → setIn l (suc i) ≡ setIn k i
+set-behind l k i h =
+    let a : setBytes * suc i ≡ suc (suc (setBytes * i)) = omega arith in
+    let b : setBytes * suc i + 1 ≡ suc (suc (setBytes * i + 1)) = omega arith in
+    ap₂ (λ (x y : ℕ). x + byteValues * y) (ap (λ (c : ℕ). getD l c 0) a ∙ h (setBytes * i)) (ap (λ (c : ℕ). getD l c 0) b ∙ h (setBytes * i + 1))
+
+-- q gives the sets of a list, from number j on
+module _ (q : ℕ → ℕ) where
+  abbrev Gives : List ℕ → ℕ → Type 0
+  Gives l j = (i : ℕ) → q (j + i) ≡ setIn l i
+
+  first-given : (l : List ℕ) (j : ℕ) → Gives l j → q j ≡ setIn l 0
+  first-given l j h = subst (λ k. q k ≡ setIn l 0) (add-zero j) (h 0)
+
+  rest-given : (l k : List ℕ) (j : ℕ) → ((c : ℕ) → getD l (suc (suc c)) 0 ≡ getD k c 0) → Gives l j → Gives k (suc j)
+  rest-given l k j e h i = subst (λ n. q n ≡ setIn l (suc i)) (add-suc j i ∙ sym (suc-add j i)) (h (suc i)) ∙ set-behind l k i e
+
+  table-walked : (n : ℕ) (l : List ℕ) (j : ℕ) → Gives l j → tabulate q n j ≡ setsWalked n l
+  table-walked zero l j h = refl
+  table-walked (suc n) [] j h = ap₂ _∷_ (first-given [] j h) (table-walked n [] (suc j) (rest-given [] [] j (λ c. refl) h))
+  table-walked (suc n) (x ∷ []) j h =
+      ap₂ _∷_ (first-given (x ∷ []) j h ∙ add-zero x) (table-walked n [] (suc j) (rest-given (x ∷ []) [] j (λ c. refl) h))
+  table-walked (suc n) (x ∷ y ∷ l) j h = ap₂ _∷_ (first-given (x ∷ y ∷ l) j h) (table-walked n l (suc j) (rest-given (x ∷ y ∷ l) l j (λ c. refl) h))
+
+sets-walked : (n : ℕ) (l : List ℕ) → setsWalked n l ≡ setsIn n l
+unfolding setsIn
+sets-walked n l = sym (table-walked (setIn l) n l 0 (λ i. ap (setIn l) (zero-add i)))
+
+abbrev pub cellsWalked : List ℕ → List ℕ
+cellsWalked f = setsWalked (names * names) (section f 1)
+
+-- ---- a test of each
+-- a test holds at n elements of a list, and at their places from j on
 abbrev pub walk : (ℕ → ℕ → Bool) → ℕ → List ℕ → ℕ → Bool
 walk p zero l j = true
 walk p (suc n) [] j = pick (p 0 j) (walk p n [] (suc j)) false
 walk p (suc n) (x ∷ l) j = pick (p x j) (walk p n l (suc j)) false
 
--- q is the test p of the list's bytes, from place j on
+-- q is the test p of the list's elements, from place j on
 module _ (p : ℕ → ℕ → Bool) (q : ℕ → Bool) where
   abbrev Agree : List ℕ → ℕ → Type 0
   Agree l j = (i : ℕ) → q (j + i) ≡ p (getD l i 0) (j + i)
@@ -49,7 +93,7 @@ module _ (p : ℕ → ℕ → Bool) (q : ℕ → Bool) where
 none-within : (g : ℕ) → within 0 g ≡ true
 none-within g = lt-ltb 0 (2 ^ g) (one-le-pow g 2 (omega arith))
 
--- what `cellFits` asks of a byte at a place; most bytes are 0, and fit everywhere
+-- what `cellFits` asks of a set at a place; most are 0, and fit everywhere
 abbrev pub fits : ℕ → List ℕ → ℕ → ℕ → Bool
 fits g ks x c = pick (eqb x 0) true (pick (within x g) (inside ks (c / names) (c % names)) false)
 
@@ -96,7 +140,7 @@ walkedRefusal f =
     orElse (headerRefusal f)
     (orElse (pairsRefusal f)
     (orElse (sizesRefusal f)
-    (orElse (walkedMatrix (rightsOf f) (kindsIn f) (cellsIn f))
+    (orElse (walkedMatrix (rightsOf f) (kindsIn f) (cellsWalked f))
     (orElse (carriesRefusal (rightsOf f) (carriesIn f))
     (commandsRefusal f (commandsOf f) 0)))))
 
@@ -104,4 +148,10 @@ pub refusal-walked : (f : List ℕ) → walkedRefusal f ≡ refusal f
 unfolding refusal
 refusal-walked f =
     ap (λ z. orElse (headerRefusal f) (orElse (pairsRefusal f) (orElse (sizesRefusal f) (orElse z (orElse (carriesRefusal (rightsOf f) (carriesIn f)) (commandsRefusal f (commandsOf f) 0))))))
-    (matrix-walked (rightsOf f) (kindsIn f) (cellsIn f))
+    (ap (walkedMatrix (rightsOf f) (kindsIn f)) (sets-walked (names * names) (section f 1)) ∙ matrix-walked (rightsOf f) (kindsIn f) (cellsIn f))
+
+abbrev pub walkedState : List ℕ → State
+walkedState f = view (kindsIn f) (cellsWalked f)
+
+pub state-walked : (f : List ℕ) → walkedState f ≡ fileState f
+state-walked f = ap (view (kindsIn f)) (sets-walked (names * names) (section f 1))

@@ -30,7 +30,7 @@ joined (s ∷ ss) = s ++ joined ss
 abbrev pub fileWith : ℕ → List (List ℕ) → List ℕ
 fileWith g ss = g ∷ length ss ∷ (pairsFrom (2 + 4 * length ss) ss ++ joined ss)
 
--- a name with its kind; a cell with its byte
+-- a name with its kind; a cell with its set of rights
 pub record KindAt : Type 0 where
   pub name : ℕ
   pub kind : ℕ
@@ -47,23 +47,35 @@ anObject x = record { name = x; kind = 1 }
 abbrev pub aSubject : ℕ → KindAt
 aSubject x = record { name = x; kind = 2 }
 
--- the names below n, all objects
+-- the names below n, all objects; all subjects
 abbrev pub objectsBelow : ℕ → List KindAt
 objectsBelow zero = []
 objectsBelow (suc n) = anObject n ∷ objectsBelow n
 
--- the cell (s, o) with its byte: "Bit i, worth 2 to the power i, is right i."
-abbrev pub cellWith : ℕ → ℕ → ℕ → CellAt
-cellWith s o byte = record { subject = s; object = o; rights = byte }
+abbrev pub subjectsBelow : ℕ → List KindAt
+subjectsBelow zero = []
+subjectsBelow (suc n) = aSubject n ∷ subjectsBelow n
 
--- 32 kinds and 1,024 cells, 0 where nothing else is said; of two that are said of one name or cell the first stands
+-- the cell (s, o) with its set: "Bit i, worth 2 to the power i, is right i."
+abbrev pub cellWith : ℕ → ℕ → ℕ → CellAt
+cellWith s o x = record { subject = s; object = o; rights = x }
+
+-- 32 kinds and 1,024 cells of two bytes, 0 where nothing else is said; of two that are said of one name or cell the first stands
 abbrev pub kindBytes : List KindAt → List ℕ
 kindBytes [] = replicate 32 0
 kindBytes (k ∷ ks) = set (kindBytes ks) (k .name) (k .kind)
 
+-- "a cell and a carry entry are two bytes low byte first" (document 02, C-21): a set at a place, and sets one behind the other
+abbrev pub setAt : ℕ → ℕ → List ℕ → List ℕ
+setAt at x bytes = set (set bytes at (x % 256)) (at + 1) (x / 256)
+
+abbrev pub setsBytes : List ℕ → List ℕ
+setsBytes [] = []
+setsBytes (x ∷ xs) = wordBytes x (setsBytes xs)
+
 abbrev pub cellBytes : List CellAt → List ℕ
-cellBytes [] = replicate 1024 0
-cellBytes (c ∷ cs) = set (cellBytes cs) (32 * c .subject + c .object) (c .rights)
+cellBytes [] = replicate 2048 0
+cellBytes (c ∷ cs) = setAt (2 * (32 * c .subject + c .object)) (c .rights) (cellBytes cs)
 
 -- "conditions of 3 bytes (right, subject blank, object blank)"
 abbrev pub ifIn : ℕ → ℕ → ℕ → List ℕ
@@ -103,9 +115,9 @@ onName o = ruleBytes 1 [] (o ∷ [])
 abbrev pub onCell : List ℕ → List ℕ
 onCell o = ruleBytes 2 [] (o ∷ [])
 
--- the whole file: rights, kinds, cells, what each right carries, rules
+-- the whole file: rights, kinds, cells, the set that each right carries, rules
 abbrev pub fileCarrying : ℕ → List KindAt → List CellAt → List ℕ → List (List ℕ) → List ℕ
-fileCarrying g ks cs carries rules = fileWith g (kindBytes ks ∷ cellBytes cs ∷ carries ∷ rules)
+fileCarrying g ks cs carries rules = fileWith g (kindBytes ks ∷ cellBytes cs ∷ setsBytes carries ∷ rules)
 
 -- "an all-zero pair" (document 02, C-19): no right carries another
 abbrev pub fileOf : ℕ → List KindAt → List CellAt → List (List ℕ) → List ℕ

@@ -9,4 +9,5 @@ pub mod Needs
 pub mod Trusted
 pub mod Sheets
 pub mod Carrying
+pub mod Wide
 pub mod Table

@@ -24,9 +24,10 @@ use Rattle.examples.specs.Needs.{needCases}
 use Rattle.examples.specs.Trusted.{trustedCases}
 use Rattle.examples.specs.Sheets.{sheetCases}
 use Rattle.examples.specs.Carrying.{metCases, carriedReplayCases, carriedJudgeCases, carriedQuestionCases}
+use Rattle.examples.specs.Wide.{wideRunCases, wideQuestionCases, largestCases}
 
 abbrev pub parts : List (List Row)
-parts = slipCases ∷ headerCases ∷ matrixCases ∷ carryCases ∷ ruleCases ∷ refusedCases ∷ doneCases ∷ replayCases ∷ callerCases ∷ roundCases ∷ createCases ∷ closingCases ∷ needCases ∷ trustedCases ∷ sheetCases ∷ metCases ∷ carriedReplayCases ∷ carriedJudgeCases ∷ carriedQuestionCases ∷ []
+parts = slipCases ∷ headerCases ∷ matrixCases ∷ carryCases ∷ ruleCases ∷ refusedCases ∷ doneCases ∷ replayCases ∷ callerCases ∷ roundCases ∷ createCases ∷ closingCases ∷ needCases ∷ trustedCases ∷ sheetCases ∷ metCases ∷ carriedReplayCases ∷ carriedJudgeCases ∷ carriedQuestionCases ∷ wideRunCases ∷ wideQuestionCases ∷ largestCases ∷ []
 
 abbrev pub table : List Row
 table = joined parts
@@ -59,9 +60,9 @@ required =
     "2: two bytes, g 0, before 3" ∷
     "1: 4,097 bytes, before 2" ∷
     "2: 4,096 bytes" ∷
-    "2: g 9, before 3" ∷
+    "2: g 13, before 3" ∷
     "3: g 1, two pairs, before 1" ∷
-    "3: g 8, 36 pairs, before 1" ∷
+    "3: g 12, 36 pairs, before 1" ∷
     "1: 3 pairs in 13 bytes, before 4" ∷
     "1: 35 pairs in 141 bytes, before 4" ∷
     "4: 3 pairs in 14 bytes, the first offset 0, before 5" ∷
@@ -73,10 +74,12 @@ required =
     "4: sums are not taken modulo 65,536, before 5" ∷
     "5: kinds of 31 bytes, before 6" ∷
     "5: kinds of 33 bytes, before 6" ∷
-    "5: cells of 1,023 bytes, before 6" ∷
-    "5: cells of 1,025 bytes, before 6" ∷
-    "5: carries of g - 1 bytes, before 6" ∷
-    "5: carries of g + 1 bytes, before 6" ∷
+    "5: cells of 1,024 bytes, before 6" ∷
+    "5: cells of 2,047 bytes, before 6" ∷
+    "5: cells of 2,049 bytes, before 6" ∷
+    "5: carries of g bytes, before 6" ∷
+    "5: carries of 2 g - 1 bytes, before 6" ∷
+    "5: carries of 2 g + 1 bytes, before 6" ∷
     "5: carries of no byte, g 1" ∷
     "6: the last kind 3, before 7" ∷
     "7: the last kind 2" ∷
@@ -87,7 +90,16 @@ required =
     "7: an absent name's column" ∷
     "5: an object's column" ∷
     "7: the last cell" ∷
-    "accepted: g 8, all rights in a cell" ∷
+    "7: g 2, right 8 alone in a cell" ∷
+    "7: g 12, right 8 in an object's row" ∷
+    "7: g 12, right 8 in the last cell" ∷
+    "accepted: g 12, right 8 in the last cell" ∷
+    "accepted: g 12, right 11 in a cell" ∷
+    "7: g 11, right 11 in a cell" ∷
+    "accepted: g 12, all rights in a cell" ∷
+    "7: g 12, bit 12 in a cell" ∷
+    "7: g 12, bit 15 in a cell" ∷
+    "7: g 12, all bits in a cell" ∷
     "7: right g in a cell, before 44" ∷
     "44: right g carried, before rule 0's 5" ∷
     "44: right g carried by the last right" ∷
@@ -96,7 +108,11 @@ required =
     "44: before rule 0's 8" ∷
     "44: before rule 0's 9" ∷
     "44: g 7, right 7 carried" ∷
-    "accepted: g 8, each right carries all" ∷
+    "44: g 8, right 8 carried" ∷
+    "44: g 11, right 11 carried" ∷
+    "44: g 12, bit 12 carried" ∷
+    "44: g 12, bit 15 carried by the last right" ∷
+    "accepted: g 12, each right carries all" ∷
     "5: a rule of 2 bytes, before 8" ∷
     "8: no blanks, before 5" ∷
     "8: 5 blanks, before 5" ∷
@@ -126,6 +142,8 @@ required =
     "9: a created blank k" ∷
     "accepted: the largest rule" ∷
     "accepted: 35 pairs" ∷
+    "accepted: the longest file, 3,494 bytes" ∷
+    "9: g 12, right 12 in the last of 32 rules" ∷
     "5 before 11" ∷
     "11: rule 1 of one, before 12" ∷
     "12: 32 for a named blank, before 14" ∷
@@ -328,6 +346,34 @@ required =
     "part: carrying without the office" ∷
     "sheet: 44 in each entry" ∷
     "sheet: each right under carrying" ∷
+    "done: enter right 8, the low byte stays" ∷
+    "done: enter right 11 into an empty cell" ∷
+    "done: enter right 7, the high byte stays" ∷
+    "done: delete right 8, the low byte stays" ∷
+    "done: delete right 0, the high byte stays" ∷
+    "done: destroy object, both bytes" ∷
+    "done: destroy subject, both bytes" ∷
+    "14: right 0 is there, not right 8" ∷
+    "14: right 8 is there, not right 0" ∷
+    "done: right 11 carries right 8" ∷
+    "14: right 11 carries right 0, not right 8" ∷
+    "leak at step 1, of right 11" ∷
+    "no leak: right 8 is not right 0" ∷
+    "judge: right 11" ∷
+    "judge: 24, right 11, 379 bytes" ∷
+    "judge: right 8 given back, right 11 stays" ∷
+    "judge: right 8 gone, and asked for" ∷
+    "need: right 11" ∷
+    "need: never, right 9" ∷
+    "need: 41, right 12 of 12" ∷
+    "part: right 11" ∷
+    "part: right 11, all names left out" ∷
+    "sheet: rights 8 and 11" ∷
+    "desk: right 11" ∷
+    "judge: 21, right 12 of 12, before 24" ∷
+    "judge: 24, 59,539 bytes" ∷
+    "judge: 59,540 bytes" ∷
+    "desk: the largest bound" ∷
     []
 
 -- every refusal of document 01 and of document 02 as far as it is built is the answer of some row; 13 is given by nobody since document 02, C-11

@@ -10,6 +10,7 @@ ghost use Rattle.commands.specs.Fits.{Fits};
 ghost use Rattle.execution.specs.Conditions.{ConditionApplies, ConditionsApply, HeldBy, AllHeldBy};
 use commands::Command;
 use matrix::Matrix;
+use rights::Set;
 
 // Actual b fits: a name, any byte for a spare parameter, 255 in an unused position.
 fn actual_fits(c: Command, a: [u8; Command::PARAMETERS], b: u8) -> bool
@@ -42,8 +43,8 @@ pub fn actuals_fit(c: Command, a: [u8; Command::PARAMETERS]) -> bool
 // Condition j, read over what the cell's rights carry: the sets have those that carry each right.
 fn condition_holds<'a>(
     kinds: &'a [u8; Matrix::NAMES],
-    cells: &'a [u8; Matrix::NAMES * Matrix::NAMES],
-    carriers: [u8; Matrix::RIGHTS as usize],
+    cells: &'a [Set; Matrix::NAMES * Matrix::NAMES],
+    carriers: [Set; Matrix::RIGHTS as usize],
     c: Command,
     j: usize,
     a: [u8; Command::PARAMETERS],
@@ -62,8 +63,8 @@ fn condition_holds<'a>(
 
 pub fn conditions_hold<'a>(
     kinds: &'a [u8; Matrix::NAMES],
-    cells: &'a [u8; Matrix::NAMES * Matrix::NAMES],
-    carriers: [u8; Matrix::RIGHTS as usize],
+    cells: &'a [Set; Matrix::NAMES * Matrix::NAMES],
+    carriers: [Set; Matrix::RIGHTS as usize],
     c: Command,
     a: [u8; Command::PARAMETERS],
 ) -> bool

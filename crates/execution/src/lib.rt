@@ -12,6 +12,7 @@ mod conditions;
 use commands::Command;
 use matrix::Matrix;
 use policy::Policy;
+use rights::Set;
 
 // What a rule run comes to: document 01's refusal; done; or done, with the right asked about entered into a cell that lacked it.
 pub enum Answer {
@@ -34,7 +35,7 @@ struct Ran {
 // The operations in order, each on what the one before left; those before one that cannot be done stay done.
 fn run_operations(
     kinds: &mut [u8; Matrix::NAMES],
-    cells: &mut [u8; Matrix::NAMES * Matrix::NAMES],
+    cells: &mut [Set; Matrix::NAMES * Matrix::NAMES],
     c: Command,
     a: [u8; Command::PARAMETERS],
     right: u8,
@@ -61,7 +62,7 @@ fn run_operations(
 // All operations, or none. A single one that cannot be done has changed nothing, so that no copy is kept for it.
 fn run_all(
     kinds: &mut [u8; Matrix::NAMES],
-    cells: &mut [u8; Matrix::NAMES * Matrix::NAMES],
+    cells: &mut [Set; Matrix::NAMES * Matrix::NAMES],
     c: Command,
     a: [u8; Command::PARAMETERS],
     right: u8,
@@ -87,8 +88,8 @@ fn run_all(
 // A command with actual parameters: all conditions are tested before the first operation; all operations are done, or none.
 fn run_command(
     kinds: &mut [u8; Matrix::NAMES],
-    cells: &mut [u8; Matrix::NAMES * Matrix::NAMES],
-    carriers: [u8; Matrix::RIGHTS as usize],
+    cells: &mut [Set; Matrix::NAMES * Matrix::NAMES],
+    carriers: [Set; Matrix::RIGHTS as usize],
     c: Command,
     a: [u8; Command::PARAMETERS],
     right: u8,
@@ -118,7 +119,7 @@ fn run_command(
 pub fn call(
     p: Policy,
     kinds: &mut [u8; Matrix::NAMES],
-    cells: &mut [u8; Matrix::NAMES * Matrix::NAMES],
+    cells: &mut [Set; Matrix::NAMES * Matrix::NAMES],
     command: u8,
     a: [u8; Command::PARAMETERS],
     right: u8,

@@ -6,6 +6,7 @@ ghost use Rattle.protection.specs.Need.{holdsAll};
 ghost use Rattle.matrix.specs.Bytes.{view, rightsIn};
 ghost use Rattle.goals.specs.Goals.{cellLimit, CellFits, GoalFits, neededAt, neededBy, leakGoal, heldGoal, questionOf, endsBy};
 use matrix::Matrix;
+use rights::Set;
 
 // A right is judged, or the first cells of a list, three bytes each, are needed; and names, as digits of a mask, that a create may not take.
 pub struct Goal {
@@ -55,7 +56,7 @@ fn cell_held<'a>(
     list: &'a [u8; 3 * Goal::CELLS],
     j: usize,
     kinds: &'a [u8; Matrix::NAMES],
-    cells: &'a [u8; Matrix::NAMES * Matrix::NAMES],
+    cells: &'a [Set; Matrix::NAMES * Matrix::NAMES],
 ) -> bool
     requires { ⌜ CellFits (now list) j ⌝ }
     ensures { λ r. ⌜ r ≡ rightsIn (now (kinds .entry)) (now (cells .entry)) (neededAt (now (list .entry)) j .subject) (neededAt (now (list .entry)) j .object) (neededAt (now (list .entry)) j .right) ⌝ }
@@ -71,7 +72,7 @@ fn cell_held<'a>(
 fn all_held<'a>(
     goal: Goal,
     kinds: &'a [u8; Matrix::NAMES],
-    cells: &'a [u8; Matrix::NAMES * Matrix::NAMES],
+    cells: &'a [Set; Matrix::NAMES * Matrix::NAMES],
 ) -> bool
     requires { ⌜ GoalFits goal ⌝ }
     ensures { λ r. ⌜ r ≡ holdsAll (neededBy goal) (view (now (kinds .entry)) (now (cells .entry))) ⌝ }
@@ -90,7 +91,7 @@ fn all_held<'a>(
 pub fn at_start<'a>(
     goal: Goal,
     kinds: &'a [u8; Matrix::NAMES],
-    cells: &'a [u8; Matrix::NAMES * Matrix::NAMES],
+    cells: &'a [Set; Matrix::NAMES * Matrix::NAMES],
 ) -> bool
     requires { ⌜ GoalFits goal ⌝ }
     ensures { λ r. ⌜ r ≡ questionOf goal .atStart (view (now (kinds .entry)) (now (cells .entry))) ⌝ }
@@ -106,7 +107,7 @@ pub fn ended<'a>(
     goal: Goal,
     q: u8,
     kinds: &'a [u8; Matrix::NAMES],
-    cells: &'a [u8; Matrix::NAMES * Matrix::NAMES],
+    cells: &'a [Set; Matrix::NAMES * Matrix::NAMES],
 ) -> bool
     requires { ⌜ GoalFits goal ⌝ }
     ensures { λ r. ⌜ r ≡ endsBy goal q (view (now (kinds .entry)) (now (cells .entry))) ⌝ }

@@ -10,6 +10,7 @@ use lib.ListN.{length}
 use Rattle.cases.specs.Cases.{pick, all}
 use Rattle.cases.proofs.Loops.{all-at}
 use Rattle.protection.specs.Limits.{names, rights, commands, fileBytes}
+use Rattle.rights.specs.Bytes.{setBytes}
 use Rattle.layout.specs.File.{rightsOf, pairsOf, offsetOf, lengthOf, pairsEnd, startOf, fixedPairs}
 use Rattle.layout.specs.Refusals.{orElse, headerRefusal, inPlace, pairsRefusal, sizesRefusal}
 
@@ -84,10 +85,10 @@ sections-placed f e i l =
     let t2 = held (eqb (startOf f (pairsOf f)) (length f)) 3 _ (t1 .1) in
     placed-at f (pairsOf f) (t1 .0) (eqb-true (startOf f (pairsOf f)) (length f) (t2 .0)) i l
 
-pub sizes-accepted : (f : List ℕ) → sizesRefusal f ≡ 0 → (lengthOf f 0 ≡ names) × (lengthOf f 1 ≡ names * names) × (lengthOf f 2 ≡ rightsOf f)
+pub sizes-accepted : (f : List ℕ) → sizesRefusal f ≡ 0 → (lengthOf f 0 ≡ names) × (lengthOf f 1 ≡ setBytes * (names * names)) × (lengthOf f 2 ≡ setBytes * rightsOf f)
 unfolding sizesRefusal
 sizes-accepted f e =
     let t1 = held (eqb (lengthOf f 0) names) 4 _ e in
-    let t2 = held (eqb (lengthOf f 1) (names * names)) 4 _ (t1 .1) in
-    let t3 = held (eqb (lengthOf f 2) (rightsOf f)) 4 _ (t2 .1) in
-    (eqb-true (lengthOf f 0) names (t1 .0), eqb-true (lengthOf f 1) (names * names) (t2 .0), eqb-true (lengthOf f 2) (rightsOf f) (t3 .0))
+    let t2 = held (eqb (lengthOf f 1) (setBytes * (names * names))) 4 _ (t1 .1) in
+    let t3 = held (eqb (lengthOf f 2) (setBytes * rightsOf f)) 4 _ (t2 .1) in
+    (eqb-true (lengthOf f 0) names (t1 .0), eqb-true (lengthOf f 1) (setBytes * (names * names)) (t2 .0), eqb-true (lengthOf f 2) (setBytes * rightsOf f) (t3 .0))

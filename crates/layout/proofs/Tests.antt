@@ -49,10 +49,10 @@ module _ (f : List ℕ) (n i at : ℕ) (e : n ≡ pairsOf f) (l : i ≤ n) (g : 
   unfolding pairsRefusal
   ends-right q = let z = eq-eqb (startOf f (pairsOf f)) (length f) (sym ends ∙ q) in rw (all-placed, z)
 
--- a number that a callee answered, r, compared with one that the caller has given, n
-module _ (r a n b x y z : ℕ) (d : r ≡ a) (e : n ≡ b) where
-  pub on-given : r ≡ n → x ≡ y → x ≡ pick (eqb a b) y z
-  on-given p = on-is r a b x y z d (p ∙ e)
+-- a number that a callee answered, r, compared with so many times one that the caller has given, n
+module _ (r a k n b x y z : ℕ) (d : r ≡ a) (e : n ≡ b) where
+  pub on-given : r ≡ k * n → x ≡ y → x ≡ pick (eqb a (k * b)) y z
+  on-given p = on-is r a (k * b) x y z d (p ∙ ap (λ (m : ℕ). k * m) e)
 
-  pub on-not-given : (r ≡ n → ⊥) → x ≡ z → x ≡ pick (eqb a b) y z
-  on-not-given p = on-isnt r a b x y z d (λ q. p (q ∙ sym e))
+  pub on-not-given : (r ≡ k * n → ⊥) → x ≡ z → x ≡ pick (eqb a (k * b)) y z
+  on-not-given p = on-isnt r a (k * b) x y z d (λ q. p (q ∙ ap (λ (m : ℕ). k * m) (sym e)))

@@ -2,6 +2,8 @@
 use Prim.Native.Nat.{ℕ, zero, suc, _+_, _*_, _-_}
 use mathlib.Core.List.{List}
 use lib.ListN.{getD, take, drop}
+use Rattle.rights.specs.Bytes.{setsIn}
+use Rattle.protection.specs.Limits.{names, rights}
 
 abbrev pub byte : List ℕ → ℕ → ℕ
 byte f i = getD f i 0
@@ -42,11 +44,13 @@ section f i = take (lengthOf f i) (drop (offsetOf f i) f)
 abbrev pub kindsIn : List ℕ → List ℕ
 kindsIn f = section f 0
 
+-- "a cell and a carry entry are two bytes low byte first" (document 02, C-21)
 abbrev pub cellsIn : List ℕ → List ℕ
-cellsIn f = section f 1
+cellsIn f = setsIn (names * names) (section f 1)
 
+-- of each right below the limit; from g on they carry nothing
 abbrev pub carriesIn : List ℕ → List ℕ
-carriesIn f = section f 2
+carriesIn f = setsIn rights (section f 2)
 
 -- pairs before the first rule's
 abbrev pub fixedPairs : ℕ

@@ -88,11 +88,11 @@ pub fn sizes_refusal(file: &[u8], g: u8) -> u8
         return 5;
     }
     let cells = word_at(file, 8);
-    if cells != Matrix::NAMES * Matrix::NAMES {
+    if cells != rights::bytes::SIZE * (Matrix::NAMES * Matrix::NAMES) {
         return 5;
     }
     let carries = word_at(file, 12);
-    if carries != g as usize {
+    if carries != rights::bytes::SIZE * (g as usize) {
         return 5;
     }
     0

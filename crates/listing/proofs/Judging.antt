@@ -23,6 +23,7 @@ use Rattle.safety.specs.declared.Judgement.the-variants.{Safe, Unsafe}
 use Rattle.safety.proofs.Refusals.{none-refused, judges, refuses, fills}
 use Rattle.safety.proofs.Buffers.{bytes-length, calls-back}
 use Rattle.listing.specs.Listing.{head, refusedWord, bufferBytes, printed, listing}
+use Rattle.questions.specs.Refusals.{mostSteps}
 use Rattle.listing.specs.Writing.{Put, Room, listingBytes, Answered}
 
 -- ---- the judgement, its count and its steps
@@ -48,7 +49,7 @@ module _ (f : List ℕ) (r : ℕ) (b : List ℕ) (j : Judgement) (b' : List ℕ)
     count : stepsWritten j ≡ length (fileVerdict f r .steps)
     count = ap stepsWritten (given ∙ judges f r bufferBytes z) ∙ count-of (fileVerdict f r .unsafe) (length (fileVerdict f r .steps))
 
-    few : stepsWritten j ≤ 7940
+    few : stepsWritten j ≤ mostSteps
     few = let k = J .demand3 here .room in omega arith
 
     inside : 5 * stepsWritten j ≤ length b'

@@ -14,7 +14,8 @@ use native.Mathlib.Numerals.{add-one}
 use Rattle.cases.specs.Cases.{pick}
 use Rattle.policy.specs.Contents.{over}
 use Rattle.listing.specs.Listing.{digits, decimal, space, newline, spaced, line, head}
-use Rattle.listing.specs.Writing.{Put, PutWithin, shownActual}
+use Rattle.questions.specs.Refusals.{mostSteps}
+use Rattle.listing.specs.Writing.{Put, PutWithin, countDigits, shownActual}
 
 -- ---- writes
 -- what stands before the bytes just written and those bytes, and what stands behind them
@@ -111,8 +112,8 @@ two-digits n h = one-more 1 n (omega arith) (λ l. let e : length (decimal (n / 
 pub byte-digits : (n : ℕ) → n < 256 → length (decimal n) ≤ 3
 byte-digits n h = one-more 2 n (omega arith) (λ l. two-digits (n / 10) (omega arith))
 
-pub count-digits : (n : ℕ) → n ≤ 7940 → length (decimal n) ≤ 4
-count-digits n h = one-more 3 n (omega arith) (λ l. one-more 2 (n / 10) (omega arith) (λ l'. two-digits (n / 10 / 10) (omega arith)))
+pub count-digits : (n : ℕ) → n ≤ mostSteps → length (decimal n) ≤ countDigits
+count-digits n h = one-more 4 n (omega arith) (λ l. one-more 3 (n / 10) (omega arith) (λ k. byte-digits (n / 10 / 10) (omega arith)))
 
 -- ---- a line
 pub number-room : (b : List ℕ) (n at : ℕ) → n < 256 → at + 3 ≤ length b → at + length (decimal n) ≤ length b

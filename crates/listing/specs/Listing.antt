@@ -4,11 +4,11 @@ use mathlib.Core.List.{List, [], _∷_, _++_}
 use lib.Dec.{ltb}
 use lib.ListN.{getD, take}
 use Rattle.cases.specs.Cases.{pick}
-use Rattle.protection.specs.Limits.{rights, startNames}
 use Rattle.protection.specs.Command.{Call}
 use Rattle.commands.specs.Contents.{missing}
 use Rattle.policy.specs.Contents.{policyOf}
 use Rattle.policy.specs.declared.Policy.{Policy}
+use Rattle.questions.specs.Refusals.{mostSteps}
 use Rattle.safety.specs.Judgement.{fileVerdict, fileJudgement}
 use Rattle.safety.specs.declared.Judgement.{Judgement}
 use Rattle.safety.specs.declared.Judgement.the-variants.{Refused, Safe, Unsafe}
@@ -70,10 +70,6 @@ abbrev pub printed : Policy → Judgement → List Call → List ℕ
 printed p (Refused n) xs = head refusedWord n
 printed p (Safe n) xs = head safeWord n
 printed p (Unsafe n) xs = head unsafeWord n ++ lines p xs
-
--- "g × (subjects + 1) × (names + 2) + 4" at its largest: 8 rights, and 30 names, all subjects
-abbrev pub mostSteps : ℕ
-mostSteps = rights * (startNames + 1) * (startNames + 2) + 4
 
 -- "Its buffer is long enough for every accepted file of at most 30 names." The proofs have it as `long-enough`.
 abbrev pub bufferBytes : ℕ

@@ -7,7 +7,8 @@ use lib.Dec.{ltb}
 use lib.ListN.{length}
 use Rattle.cases.specs.Cases.{pick}
 use Rattle.policy.specs.Contents.{over}
-use Rattle.listing.specs.Listing.{space, decimal, mostSteps, listing}
+use Rattle.questions.specs.Refusals.{mostSteps}
+use Rattle.listing.specs.Listing.{space, decimal, listing}
 
 -- the bytes s, written into b from a place on; r is the place behind them
 pub record Put (b : List ℕ) (at : ℕ) (s : List ℕ) (r : ℕ) (b' : List ℕ) : Type 0 where
@@ -29,9 +30,13 @@ actualBytes = 1 + numberBytes
 abbrev pub lineBytes : ℕ
 lineBytes = numberBytes + 4 * actualBytes + 1
 
--- the first line: `UNSAFE`, a space, a number below 10,000 and a newline
+-- the number of the first line has at most so many digits: it is at most `mostSteps`
+abbrev pub countDigits : ℕ
+countDigits = 5
+
+-- the first line: `UNSAFE`, a space, a number and a newline
 abbrev pub headBytes : ℕ
-headBytes = 12
+headBytes = 6 + 1 + countDigits + 1
 
 -- an actual of a line, where it is one of the k
 abbrev pub shownActual : Bool → ℕ → List ℕ

@@ -15,7 +15,7 @@ use safety::Judgement;
 const STEPS: usize = (Matrix::RIGHTS as usize) * (Matrix::START + 1) * (Matrix::START + 2) + 4;
 
 // The first line has at most so many bytes, and each of the others.
-const HEAD: usize = 12;
+const HEAD: usize = 13;
 
 const LINE: usize = 20;
 

@@ -6,6 +6,7 @@ ghost use Rattle.cases.specs.Cases.{all};
 ghost use Rattle.protection.specs.Limits.{names, rights};
 ghost use Rattle.matrix.specs.Refusals.{kindFits, cellFits, matrixRefusal};
 use crate::Matrix;
+use rights::Set;
 
 fn kinds_fit(kinds: &[u8; Matrix::NAMES]) -> bool
     ensures { λ r. ⌜ r ≡ all (kindFits (now (kinds .entry))) names 0 ⌝ }
@@ -21,26 +22,27 @@ fn kinds_fit(kinds: &[u8; Matrix::NAMES]) -> bool
 fn cell_fits<'a>(
     g: u8,
     kinds: &'a [u8; Matrix::NAMES],
-    cells: &'a [u8; Matrix::NAMES * Matrix::NAMES],
+    cells: &'a [Set; Matrix::NAMES * Matrix::NAMES],
     c: usize,
 ) -> bool
     requires { ⌜ (g ≤ rights) × (c < names * names) ⌝ }
     ensures { λ r. ⌜ r ≡ cellFits g (now (kinds .entry)) (now (cells .entry)) c ⌝ }
 {
     let cell = cells[c];
+    // most are
+    if cell == 0 {
+        return true;
+    }
     if !rights::none_from(cell, g) {
         return false;
     }
-    if crate::has_cell(kinds, c / Matrix::NAMES, c % Matrix::NAMES) {
-        return true;
-    }
-    cell == 0
+    crate::has_cell(kinds, c / Matrix::NAMES, c % Matrix::NAMES)
 }
 
 fn cells_fit<'a>(
     g: u8,
     kinds: &'a [u8; Matrix::NAMES],
-    cells: &'a [u8; Matrix::NAMES * Matrix::NAMES],
+    cells: &'a [Set; Matrix::NAMES * Matrix::NAMES],
 ) -> bool
     requires { ⌜ g ≤ rights ⌝ }
     ensures { λ r. ⌜ r ≡ all (cellFits g (now (kinds .entry)) (now (cells .entry))) (names * names) 0 ⌝ }
@@ -57,7 +59,7 @@ fn cells_fit<'a>(
 pub fn matrix_refusal<'a>(
     g: u8,
     kinds: &'a [u8; Matrix::NAMES],
-    cells: &'a [u8; Matrix::NAMES * Matrix::NAMES],
+    cells: &'a [Set; Matrix::NAMES * Matrix::NAMES],
 ) -> u8
     requires { ⌜ g ≤ rights ⌝ }
     ensures { λ r. ⌜ r ≡ matrixRefusal g (now (kinds .entry)) (now (cells .entry)) ⌝ }

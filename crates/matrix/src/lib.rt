@@ -5,13 +5,14 @@ ghost use Rattle.protection.specs.Limits.{names, rights};
 ghost use Rattle.protection.specs.State.{isObject, isSubject};
 ghost use Rattle.matrix.specs.Bytes.{kindOf, inside};
 ghost use Rattle.matrix.specs.Matrices.{matrixOf, emptyMatrix, withRight, withoutRight, deleted, renewed};
+use rights::Set;
 
 pub mod cells;
 
 // Document 01: "the kinds with all cells, held as one thing". Cell (s, o) stands at 32 × s + o.
 pub struct Matrix {
     pub kinds: [u8; Matrix::NAMES],
-    pub cells: [u8; Matrix::NAMES * Matrix::NAMES],
+    pub cells: [Set; Matrix::NAMES * Matrix::NAMES],
 }
 
 impl Matrix {
@@ -19,7 +20,7 @@ impl Matrix {
     pub const NAMES: usize = 32;
 
     // Rights are the numbers below g, which is at most this.
-    pub const RIGHTS: u8 = 8;
+    pub const RIGHTS: u8 = 12;
 
     // Names that may exist where a verdict is asked for.
     pub const START: usize = 30;
@@ -30,7 +31,7 @@ impl Matrix {
     {
         Matrix {
             kinds: [0u8; Matrix::NAMES],
-            cells: [0u8; Matrix::NAMES * Matrix::NAMES],
+            cells: [rights::NONE; Matrix::NAMES * Matrix::NAMES],
         }
     }
 
@@ -46,7 +47,7 @@ impl Matrix {
 }
 
 // Right q is put into the cell (s, o).
-pub fn enter(cells: &mut [u8; Matrix::NAMES * Matrix::NAMES], q: u8, s: usize, o: usize)
+pub fn enter(cells: &mut [Set; Matrix::NAMES * Matrix::NAMES], q: u8, s: usize, o: usize)
     requires { ⌜ (q < rights) × (s < names) × (o < names) ⌝ }
     ensures { λ _. ⌜ now (cells .exit) ≡ withRight (now (cells .entry)) q s o ⌝ }
 {
@@ -55,7 +56,7 @@ pub fn enter(cells: &mut [u8; Matrix::NAMES * Matrix::NAMES], q: u8, s: usize, o
 }
 
 // Right q is taken out of the cell (s, o).
-pub fn delete(cells: &mut [u8; Matrix::NAMES * Matrix::NAMES], q: u8, s: usize, o: usize)
+pub fn delete(cells: &mut [Set; Matrix::NAMES * Matrix::NAMES], q: u8, s: usize, o: usize)
     requires { ⌜ (q < rights) × (s < names) × (o < names) ⌝ }
     ensures { λ _. ⌜ now (cells .exit) ≡ withoutRight (now (cells .entry)) q s o ⌝ }
 {
@@ -66,7 +67,7 @@ pub fn delete(cells: &mut [u8; Matrix::NAMES * Matrix::NAMES], q: u8, s: usize, 
 // Name n gets a kind, and an empty row and column.
 pub fn renew(
     kinds: &mut [u8; Matrix::NAMES],
-    cells: &mut [u8; Matrix::NAMES * Matrix::NAMES],
+    cells: &mut [Set; Matrix::NAMES * Matrix::NAMES],
     n: usize,
     kind: u8,
 )

@@ -14,6 +14,7 @@ ghost use Rattle.parts.specs.Parts.{canLeave, PartJudged};
 ghost use Rattle.parts.specs.Dropped.{trustedRead, dropAt, dropped, partOf};
 use matrix::Matrix;
 use policy::Policy;
+use rights::Set;
 use safety::Judgement;
 
 // A list that was read: refusal 42 or 0, and the names on it as digits of a mask.
@@ -65,7 +66,7 @@ fn read_trusted<'a>(kinds: &'a [u8; Matrix::NAMES], list: &'a [u8]) -> Trusted
 // Name x is dropped with its row and column, if it is one of the mask.
 fn drop_at(
     kinds: &mut [u8; Matrix::NAMES],
-    cells: &mut [u8; Matrix::NAMES * Matrix::NAMES],
+    cells: &mut [Set; Matrix::NAMES * Matrix::NAMES],
     mask: u32,
     x: usize,
 )
@@ -80,7 +81,7 @@ fn drop_at(
 // All names of the mask are dropped.
 fn drop_names(
     kinds: &mut [u8; Matrix::NAMES],
-    cells: &mut [u8; Matrix::NAMES * Matrix::NAMES],
+    cells: &mut [Set; Matrix::NAMES * Matrix::NAMES],
     mask: u32,
 )
     ensures { λ _. ⌜ matrixOf (now (kinds .exit)) (now (cells .exit)) ≡ dropped (matrixOf (now (kinds .entry)) (now (cells .entry))) mask ⌝ }

@@ -9,11 +9,13 @@ use borrow.Author.Tests.{leb-true, ltb-true, eqb-true, lt-ltb}
 use lib.Dec.{T, leb, eqb, ltb, T-not}
 use lib.ListN.{length, getD, take, drop, length-drop, take-append-drop, List·getD-eq-default}
 use lib.Pow.{pow-pos}
-use lib.Seq.{length-take-le, drop-drop}
+use lib.Seq.{length-take-le, drop-drop, getD-take, getD-drop}
 use Rattle.cases.specs.Cases.{pick, all}
 use Rattle.cases.proofs.Lists.{length-tabulate, getD-tabulate}
 use Rattle.cases.proofs.Loops.{all-at}
 use Rattle.rights.specs.Rights.{within}
+use Rattle.rights.specs.Bytes.{setBytes, byteValues, setsIn, bytesOf}
+use Rattle.rights.proofs.SetBytes.{length-sets, set-read, set-past, bytes-back}
 use Rattle.protection.specs.Limits.{names, rights, commands}
 use Rattle.protection.specs.State.{State}
 use Rattle.matrix.specs.Bytes.{inside, view, kindsOf, cellsOf}
@@ -22,8 +24,6 @@ use Rattle.matrix.specs.Canonical.{Canonical}
 use Rattle.matrix.proofs.Inverse.{view-proper, kinds-back, cells-back}
 use Rattle.layout.specs.File.{byte, rightsOf, pairsOf, offsetOf, lengthOf, startOf, section, kindsIn, cellsIn, carriesIn, fixedPairs, commandIn, commandsOf}
 use Rattle.matrix.specs.Refusals.{kindFits, cellFits}
-use Rattle.carries.specs.Bytes.{carriesTable}
-use Rattle.carries.proofs.Sets.{getD-table}
 use Rattle.carries.proofs.Refusing.{carries-accepted}
 use Rattle.policy.specs.Refusals.{refusal}
 use Rattle.policy.specs.Contents.{over, written, fileState, commandTable, policyOf}
@@ -65,14 +65,14 @@ module _ (f : List ℕ) (A : Accepted f) where
   kinds-inside : offsetOf f 0 + names ≤ length f
   kinds-inside = let z = sizes-accepted f (A .sizes) .0 in let e = pairs-accepted f (A .pairs) 0 (omega (arith, fixed)) in omega arith
 
-  cells-inside : offsetOf f 1 + names * names ≤ length f
+  cells-inside : offsetOf f 1 + setBytes * (names * names) ≤ length f
   cells-inside = let z = sizes-accepted f (A .sizes) .1 in let e = pairs-accepted f (A .pairs) 1 (omega (arith, fixed)) in omega arith
 
   pub kinds-length : length (kindsIn f) ≡ names
   kinds-length = section-length f 0 (pairs-accepted f (A .pairs) 0 (omega (arith, fixed))) ∙ sizes-accepted f (A .sizes) .0
 
   pub cells-length : length (cellsIn f) ≡ names * names
-  cells-length = section-length f 1 (pairs-accepted f (A .pairs) 1 (omega (arith, fixed))) ∙ sizes-accepted f (A .sizes) .1
+  cells-length = length-sets (names * names) (section f 1)
 
   kind-fits : (x : ℕ) → getD (kindsIn f) x 0 ≤ 2
   kind-fits x = go (decLt x names)
@@ -97,20 +97,17 @@ module _ (f : List ℕ) (A : Accepted f) where
           let z : getD (cellsIn f) c 0 ≡ 0 = List·getD-eq-default (cellsIn f) 0 {n = c} (omega arith) in
           rw z (pow-pos (rightsOf f))
 
-  pub carries-length : length (carriesIn f) ≡ rightsOf f
-  carries-length = section-length f 2 (pairs-accepted f (A .pairs) 2 (omega (arith, fixed))) ∙ sizes-accepted f (A .sizes) .2
+  carries-bytes : length (section f 2) ≡ setBytes * rightsOf f
+  carries-bytes = section-length f 2 (pairs-accepted f (A .pairs) 2 (omega (arith, fixed))) ∙ sizes-accepted f (A .sizes) .2
 
-  carry-fits : (i : ℕ) → getD (carriesTable (carriesIn f)) i 0 < 2 ^ rightsOf f
-  carry-fits i = inside-table (decLt i rights)
+  -- rights from g on carry nothing
+  carry-fits : (i : ℕ) → getD (carriesIn f) i 0 < 2 ^ rightsOf f
+  carry-fits i = go (decLt i (rightsOf f)) (decLt i rights)
     where
-      byte-fits : Dec (i < rightsOf f) → getD (carriesIn f) i 0 < 2 ^ rightsOf f
-      byte-fits (yes l) = carries-accepted (rightsOf f) (carriesIn f) (A .carries) i l
-      byte-fits (no l) = rw (List·getD-eq-default (carriesIn f) 0 {n = i} (omega (arith, carries-length))) (pow-pos (rightsOf f))
-
-      inside-table : Dec (i < rights) → getD (carriesTable (carriesIn f)) i 0 < 2 ^ rightsOf f
-      inside-table (yes l) = rw (getD-table (λ j. getD (carriesIn f) j 0) i l) (byte-fits (decLt i (rightsOf f)))
-      inside-table (no l) =
-          rw (List·getD-eq-default (carriesTable (carriesIn f)) 0 {n = i} (omega (arith, length-tabulate (λ j. getD (carriesIn f) j 0) rights 0))) (pow-pos (rightsOf f))
+      go : Dec (i < rightsOf f) → Dec (i < rights) → getD (carriesIn f) i 0 < 2 ^ rightsOf f
+      go (yes l) _ = carries-accepted (rightsOf f) (carriesIn f) (A .carries) i l
+      go (no l) (yes m) = rw (set-read rights (section f 2) i m, ← set-past (section f 2) i (omega (arith, carries-bytes))) (pow-pos (rightsOf f))
+      go (no l) (no m) = rw (List·getD-eq-default (carriesIn f) 0 {n = i} (omega (arith, length-sets rights (section f 2)))) (pow-pos (rightsOf f))
 
   cell-outside : (s o : ℕ) → s < names → o < names → T (not (inside (kindsIn f) s o)) → getD (cellsIn f) (names * s + o) 0 ≡ 0
   cell-outside s o ls lo t =
@@ -131,13 +128,23 @@ module _ (f : List ℕ) (A : Accepted f) where
   pub file-cells : cellsOf (fileState f) ≡ cellsIn f
   file-cells = cells-back (rightsOf f) (kindsIn f) (cellsIn f) file-canonical (A .header .few-rights)
 
-  -- an accepted file, read as a state and written back, is the file
-  pub written-back : written f (fileState f) ≡ f
+  -- an accepted file of bytes, read as a state and written back, is the file
+  pub written-back : ((i : ℕ) → getD f i 0 < byteValues) → written f (fileState f) ≡ f
   unfolding written
-  written-back =
-      ap₂ (λ (k c : List ℕ). over (over f (offsetOf f 0) k) (offsetOf f 1) c) file-kinds file-cells
-      ∙ ap (λ (l : List ℕ). over l (offsetOf f 1) (cellsIn f)) (over-section f (offsetOf f 0) (lengthOf f 0) (pairs-accepted f (A .pairs) 0 (omega (arith, fixed))))
+  written-back small =
+      ap₂ (λ (k c : List ℕ). over (over f (offsetOf f 0) k) (offsetOf f 1) c) file-kinds (ap bytesOf file-cells ∙ bytes-back (names * names) (section f 1) cells-bytes byte-small)
+      ∙ ap (λ (l : List ℕ). over l (offsetOf f 1) (section f 1)) (over-section f (offsetOf f 0) (lengthOf f 0) (pairs-accepted f (A .pairs) 0 (omega (arith, fixed))))
       ∙ over-section f (offsetOf f 1) (lengthOf f 1) (pairs-accepted f (A .pairs) 1 (omega (arith, fixed)))
+    where
+      cells-bytes : length (section f 1) ≡ setBytes * (names * names)
+      cells-bytes = section-length f 1 (pairs-accepted f (A .pairs) 1 (omega (arith, fixed))) ∙ sizes-accepted f (A .sizes) .1
+
+      byte-small : (i : ℕ) → getD (section f 1) i 0 < byteValues
+      byte-small i = at (decLt i (lengthOf f 1))
+        where
+          at : Dec (i < lengthOf f 1) → getD (section f 1) i 0 < byteValues
+          at (yes l) = rw (getD-take (lengthOf f 1) (drop (offsetOf f 1) f) i 0 l, getD-drop (offsetOf f 1) f i 0) (small (offsetOf f 1 + i))
+          at (no l) = rw (List·getD-eq-default (section f 1) 0 {n = i} (omega (arith, cells-bytes, sizes-accepted f (A .sizes) .1))) (omega arith)
 
 -- ---- and so is the policy that the reader hands out
 pub policy-fits : (f : List ℕ) → Accepted f → PolicyFits (policyOf f)

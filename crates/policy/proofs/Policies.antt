@@ -12,6 +12,7 @@ use lib.ListN.{length, getD, take, drop, set, replicate, length-append, length-d
 use lib.Seq.{take-length, length-take-le, ext-getD, getD-append-add, getD-set-same, getD-set-other}
 use Rattle.cases.specs.Cases.{pick, tabulate}
 use Rattle.cases.proofs.Lists.{length-tabulate, getD-tabulate}
+use Rattle.rights.specs.Bytes.{setBytes, setsIn}
 use Rattle.protection.specs.Limits.{names, rights, commands}
 use Rattle.matrix.specs.Matrices.{emptyMatrix}
 use Rattle.matrix.specs.declared.Matrix.{Matrix}
@@ -21,13 +22,9 @@ use Rattle.commands.specs.Refusals.{commandRefusal}
 use Rattle.matrix.specs.Refusals.{matrixRefusal}
 use Rattle.policy.specs.Refusals.{commandsRefusal, refusal}
 use Rattle.policy.specs.Layout.{MatrixInside, CarriesInside, CommandsInside}
-use Rattle.carries.specs.Bytes.{carriesTable}
 use Rattle.carries.specs.Refusals.{carriesRefusal}
 use Rattle.carries.specs.Closed.{carriedOf, carriersOf}
-use Rattle.carries.proofs.Sets.{getD-table}
-use Rattle.carries.proofs.Refusing.{table-refusal}
-use Rattle.commands.proofs.Contents.{copied as padded-copy}
-use Rattle.commands.specs.Contents.{padded, noCommand, commandOf, commandRead}
+use Rattle.commands.specs.Contents.{noCommand, commandOf, commandRead}
 use Rattle.policy.specs.Contents.{noPolicy, commandTable, commandsRead, matrixIn, policyOf, refusedRead, policyRead}
 use Rattle.layout.proofs.Accepted.{HeaderFits, header-accepted, pairs-accepted, sizes-accepted}
 use Rattle.commands.specs.declared.Command.{Command}
@@ -54,46 +51,29 @@ copied f x i w n d e h q =
     let z : drop {A = ℕ} (length s) (replicate n 0) ≡ [] = drop-of-length-le (replicate n 0) {i = length s} (let r : length {A = ℕ} (replicate n 0) ≡ n = length-replicate n 0 in omega arith) in
     q ∙ ap₂ (λ (a b : List ℕ). a ++ b) (take-length s) z ∙ append-nil s ∙ ap₂ (λ (a b : ℕ). take a (drop b f)) (u ∙ sym e) d
 
+-- a part of the file that begins where section i does and is as long
+section-part : (f : List ℕ) (i w n : ℕ) → w ≡ offsetOf f i → lengthOf f i ≡ n → take (w + n - w) (drop w f) ≡ section f i
+section-part f i w n d e = let u : w + n - w ≡ n = omega arith in ap₂ (λ (a b : ℕ). take a (drop b f)) (u ∙ sym e) d
+
+-- sets read from such a part
+sets-read : (f x : List ℕ) (i w n k : ℕ) → w ≡ offsetOf f i → lengthOf f i ≡ n
+    → x ≡ setsIn (length {A = ℕ} (replicate k 0)) (take (w + n - w) (drop w f)) → x ≡ setsIn k (section f i)
+sets-read f x i w n k d e q = q ∙ ap₂ setsIn (length-replicate {A = ℕ} k 0) (section-part f i w n d e)
+
 pub matrix-is : (f x y : List ℕ) (w v : ℕ) → MatrixInside f → w ≡ word f 2 → v ≡ word f 6
-    → x ≡ take (length (take (w + 32 - w) (drop w f))) (take (w + 32 - w) (drop w f)) ++ drop (length (take (w + 32 - w) (drop w f))) (replicate 32 0)
-    → y ≡ take (length (take (v + 1024 - v) (drop v f))) (take (v + 1024 - v) (drop v f)) ++ drop (length (take (v + 1024 - v) (drop v f))) (replicate 1024 0)
+    → x ≡ take (length (take (w + names - w) (drop w f))) (take (w + names - w) (drop w f)) ++ drop (length (take (w + names - w) (drop w f))) (replicate names 0)
+    → y ≡ setsIn (length {A = ℕ} (replicate (names * names) 0)) (take (v + setBytes * (names * names) - v) (drop v f))
     → _≡_ {A = Matrix} (record { kinds = x; cells = y }) (matrixIn f)
 matrix-is f x y w v h dw dv ex ey =
-    let ks = h .kinds-size in let cs = h .cells-size in let ke = h .kinds-end in let ce = h .cells-end in
-    let a : x ≡ section f 0 = copied f x 0 w 32 dw ks (omega arith) ex in
-    let b : y ≡ section f 1 = copied f y 1 v 1024 dv cs (omega arith) ey in
+    let ks = h .kinds-size in let cs = h .cells-size in let ke = h .kinds-end in
+    let a : x ≡ section f 0 = copied f x 0 w names dw ks (omega arith) ex in
+    let b : y ≡ cellsIn f = sets-read f y 1 v (setBytes * (names * names)) (names * names) dv cs ey in
     rw (a, b)
 
 -- ---- the carries
-table-padded : (s : List ℕ) → length s ≤ rights → padded rights s ≡ carriesTable s
-table-padded s h =
-    ext-getD 0 (padded rights s) (carriesTable s) (length-padded ∙ sym (length-tabulate (λ i. getD s i 0) rights 0))
-    (λ i l. at i (decLt i (length s)) ∙ sym (getD-table (λ j. getD s j 0) i (omega (arith, length-padded))))
-  where
-    length-padded : length (padded rights s) ≡ rights
-    length-padded = simp (length-append, length-replicate) (omega arith)
-
-    at : (i : ℕ) → Dec (i < length s) → getD (padded rights s) i 0 ≡ getD s i 0
-    at i (yes l) = List·getD-append s (replicate (rights - length s) 0) 0 i l
-    at i (no l) =
-        let z : length s + (i - length s) ≡ i = omega arith in
-        ap (λ (j : ℕ). getD (padded rights s) j 0) (sym z) ∙ getD-append-add s (replicate (rights - length s) 0) (i - length s) 0
-        ∙ none (decLt (i - length s) (rights - length s)) ∙ sym (List·getD-eq-default s 0 {n = i} (omega arith))
-      where
-        none : Dec (i - length s < rights - length s) → _≡_ {A = ℕ} (getD (replicate (rights - length s) 0) (i - length s) 0) 0
-        none (yes k) = getD-replicate (rights - length s) (i - length s) 0 0 k
-        none (no k) = List·getD-eq-default (replicate (rights - length s) 0) 0 {n = i - length s} (omega (arith, length-replicate {A = ℕ} (rights - length s) 0))
-
-pub carries-copied : (f x : List ℕ) (g w : ℕ) → CarriesInside f g → w ≡ word f 10
-    → x ≡ take (length (take (w + g - w) (drop w f))) (take (w + g - w) (drop w f)) ++ drop (length (take (w + g - w) (drop w f))) (replicate 8 0)
-    → x ≡ carriesTable (carriesIn f)
-carries-copied f x g w h d e =
-    let n = h .size in let k = h .end in let m = h .few in
-    let u : w + g - w ≡ g = omega arith in
-    let s : List ℕ = take (w + g - w) (drop w f) in
-    let z : s ≡ carriesIn f = ap₂ (λ (a b : ℕ). take a (drop b f)) (u ∙ sym n) d in
-    let l : length s ≡ w + g - w = length-take-le (w + g - w) (drop w f) (simp length-drop (omega arith)) in
-    padded-copy rights s x (omega arith) e ∙ table-padded s (omega arith) ∙ ap carriesTable z
+pub carries-read : (f x : List ℕ) (g w : ℕ) → CarriesInside f g → w ≡ word f 10
+    → x ≡ setsIn (length {A = ℕ} (replicate rights 0)) (take (w + setBytes * g - w) (drop w f)) → x ≡ carriesIn f
+carries-read f x g w h d e = sets-read f x 2 w (setBytes * g) rights d (h .size) e
 
 -- ---- the commands
 abbrev tableAt : List ℕ → ℕ → ℕ → Command
@@ -246,12 +226,12 @@ module _ (f : List ℕ) (h : ℕ) (dh : h ≡ headerRefusal f) where
                   let z : eqb c 0 ≡ false = ne-eqb c 0 ne in
                   e ∙ sym (rw (header-none, pairs-none, sizes-none, ← matrix-is-none, z, z))
 
-              module _ (zc : c ≡ 0) (a : List ℕ) (b : ℕ) (da : a ≡ carriesTable (carriesIn f)) (db : b ≡ carriesRefusal (rightsOf f) a) where
+              module _ (zc : c ≡ 0) (a : List ℕ) (b : ℕ) (da : a ≡ carriesIn f) (db : b ≡ carriesRefusal (rightsOf f) a) where
                 matrix-none : matrixRefusal (rightsOf f) (kindsIn f) (cellsIn f) ≡ 0
                 matrix-none = sym matrix-is-none ∙ zc
 
                 carries-refused : b ≡ carriesRefusal (rightsOf f) (carriesIn f)
-                carries-refused = db ∙ ap (carriesRefusal (rightsOf f)) da ∙ table-refusal (rightsOf f) (carriesIn f) (header-fits .few-rights)
+                carries-refused = db ∙ ap (carriesRefusal (rightsOf f)) da
 
                 pub carries-stop : (x : PolicyRead) → (b ≡ 0 → ⊥) → x ≡ refusedRead b → x ≡ policyRead f
                 unfolding policyRead refusal

@@ -13,6 +13,8 @@ use Rattle.cases.specs.Cases.{pick, all, tabulate}
 use Rattle.cases.proofs.Loops.{all-intro, all-same}
 use Rattle.cases.proofs.Lists.{tabulate-same}
 use Rattle.rights.specs.Rights.{within}
+use Rattle.rights.specs.Bytes.{setBytes, setsIn, bytesOf}
+use Rattle.rights.proofs.SetBytes.{length-bytes, sets-back}
 use Rattle.protection.specs.Limits.{names, rights, commands, fileBytes}
 use Rattle.protection.specs.State.{State}
 use Rattle.protection.specs.Command.{System}
@@ -86,8 +88,15 @@ module _ (f : List ℕ) (A : Accepted f) (m : State) (P : Proper (rightsOf f) m)
   unfolding startOf
   cells-at = sections-placed f (A .pairs) 1 (omega (arith, fixed)) ∙ ap (λ (n : ℕ). offsetOf f 0 + n) (sizes-accepted f (A .sizes) .0)
 
-  cells-end : offsetOf f 1 + names * names ≤ length f
+  cells-end : offsetOf f 1 + setBytes * (names * names) ≤ length f
   cells-end = let z = sizes-accepted f (A .sizes) .1 in let e = pairs-accepted f (A .pairs) 1 (omega (arith, fixed)) in omega arith
+
+  -- the bytes of the cells
+  abbrev cellBytes : List ℕ
+  cellBytes = bytesOf (cellsOf m)
+
+  bytes-length : length cellBytes ≡ setBytes * (names * names)
+  bytes-length = length-bytes (cellsOf m) ∙ ap (λ (n : ℕ). setBytes * n) (K .cells-length)
 
   abbrev half : List ℕ
   half = over f (offsetOf f 0) (kindsOf m)
@@ -98,18 +107,18 @@ module _ (f : List ℕ) (A : Accepted f) (m : State) (P : Proper (rightsOf f) m)
   half-length : length half ≡ length f
   half-length = over-length f (kindsOf m) (offsetOf f 0) fits-kinds
 
-  fits-cells : offsetOf f 1 + length (cellsOf m) ≤ length half
-  fits-cells = omega (arith, cells-end, K .cells-length, half-length)
+  fits-cells : offsetOf f 1 + length cellBytes ≤ length half
+  fits-cells = omega (arith, cells-end, bytes-length, half-length)
 
   pub rewritten-length : length (written f m) ≡ length f
   unfolding written
-  rewritten-length = over-length half (cellsOf m) (offsetOf f 1) fits-cells ∙ half-length
+  rewritten-length = over-length half cellBytes (offsetOf f 1) fits-cells ∙ half-length
 
   -- the header and the table of pairs stay
   byte-stays : (i : ℕ) → i < pairsEnd f → byte (written f m) i ≡ byte f i
   unfolding written
   byte-stays i l =
-      over-before half (cellsOf m) (offsetOf f 1) fits-cells i (omega (arith, cells-at, kinds-at))
+      over-before half cellBytes (offsetOf f 1) fits-cells i (omega (arith, cells-at, kinds-at))
       ∙ over-before f (kindsOf m) (offsetOf f 0) fits-kinds i (omega (arith, kinds-at))
 
   word-stays : (i : ℕ) → i + 1 < pairsEnd f → word (written f m) i ≡ word f i
@@ -141,19 +150,21 @@ module _ (f : List ℕ) (A : Accepted f) (m : State) (P : Proper (rightsOf f) m)
   kinds-written =
       let n : lengthOf f 0 ≡ length (kindsOf m) = sizes-accepted f (A .sizes) .0 ∙ sym (K .kinds-length) in
       section-is 0 (omega (arith, fixed))
-      ∙ over-part half (cellsOf m) (offsetOf f 1) fits-cells (offsetOf f 0) (lengthOf f 0) (omega (arith, cells-at, sizes-accepted f (A .sizes) .0))
+      ∙ over-part half cellBytes (offsetOf f 1) fits-cells (offsetOf f 0) (lengthOf f 0) (omega (arith, cells-at, sizes-accepted f (A .sizes) .0))
       ∙ ap (λ (z : ℕ). take z (drop (offsetOf f 0) half)) n
       ∙ over-here f (kindsOf m) (offsetOf f 0) fits-kinds
 
   pub cells-written : cellsIn (written f m) ≡ cellsOf m
   unfolding written
   cells-written =
-      let n : lengthOf f 1 ≡ length (cellsOf m) = sizes-accepted f (A .sizes) .1 ∙ sym (K .cells-length) in
-      section-is 1 (omega (arith, fixed))
+      let n : lengthOf f 1 ≡ length cellBytes = sizes-accepted f (A .sizes) .1 ∙ sym bytes-length in
+      ap (setsIn (names * names))
+      (section-is 1 (omega (arith, fixed))
       ∙ ap (λ (z : ℕ). take z (drop (offsetOf f 1) (written f m))) n
-      ∙ over-here half (cellsOf m) (offsetOf f 1) fits-cells
+      ∙ over-here half cellBytes (offsetOf f 1) fits-cells)
+      ∙ ap (λ (k : ℕ). setsIn k cellBytes) (sym (K .cells-length)) ∙ sets-back (cellsOf m)
 
-  section-at : (i : ℕ) → suc i < pairsOf f → offsetOf f 1 + names * names ≤ offsetOf f (suc i) + lengthOf f (suc i)
+  section-at : (i : ℕ) → suc i < pairsOf f → offsetOf f 1 + setBytes * (names * names) ≤ offsetOf f (suc i) + lengthOf f (suc i)
   unfolding startOf
   section-at zero l = let z = sizes-accepted f (A .sizes) .1 in omega arith
   section-at (suc i) l =
@@ -167,13 +178,13 @@ module _ (f : List ℕ) (A : Accepted f) (m : State) (P : Proper (rightsOf f) m)
       let j : 2 + i ≡ suc (suc i) = omega arith in
       let e : offsetOf f (2 + i) ≡ offsetOf f (suc i) + lengthOf f (suc i) =
       ap (offsetOf f) j ∙ sections-placed f (A .pairs) (suc (suc i)) (omega arith) in
-      let far : offsetOf f 1 + names * names ≤ offsetOf f (2 + i) = omega (arith, section-at i (omega arith)) in
+      let far : offsetOf f 1 + setBytes * (names * names) ≤ offsetOf f (2 + i) = omega (arith, section-at i (omega arith)) in
       section-is (2 + i) (omega arith)
-      ∙ ap (take (lengthOf f (2 + i))) (over-after half (cellsOf m) (offsetOf f 1) fits-cells (offsetOf f (2 + i)) (omega (arith, K .cells-length))
+      ∙ ap (take (lengthOf f (2 + i))) (over-after half cellBytes (offsetOf f 1) fits-cells (offsetOf f (2 + i)) (omega (arith, bytes-length))
       ∙ over-after f (kindsOf m) (offsetOf f 0) fits-kinds (offsetOf f (2 + i)) (omega (arith, K .kinds-length, cells-at)))
 
   pub carries-stay : carriesIn (written f m) ≡ carriesIn f
-  carries-stay = section-stays 0 (omega (arith, fixed))
+  carries-stay = ap (setsIn rights) (section-stays 0 (omega (arith, fixed)))
 
   pub command-stays : (i : ℕ) → i < commandsOf f → commandIn (written f m) i ≡ commandIn f i
   command-stays i l =

@@ -4,6 +4,7 @@ use mathlib.Core.List.{List, _++_}
 use lib.ListN.{length, getD, take, drop, replicate}
 use lib.Dec.{eqb, ltb}
 use Rattle.cases.specs.Cases.{pick, tabulate}
+use Rattle.rights.specs.Bytes.{bytesOf}
 use Rattle.protection.specs.Limits.{rights, commands}
 use Rattle.protection.specs.State.{State}
 use Rattle.protection.specs.Command.{System}
@@ -11,7 +12,7 @@ use Rattle.matrix.specs.Bytes.{view, kindsOf, cellsOf}
 use Rattle.matrix.specs.Matrices.{emptyMatrix}
 use Rattle.matrix.specs.declared.Matrix.{Matrix}
 use Rattle.layout.specs.File.{rightsOf, offsetOf, kindsIn, cellsIn, carriesIn, commandIn, commandsOf}
-use Rattle.carries.specs.Bytes.{carriedIn, carriesTable}
+use Rattle.carries.specs.Bytes.{carriedIn}
 use Rattle.carries.specs.Closed.{carriedOf, carriersOf}
 use Rattle.commands.specs.Contents.{noCommand, missing, commandOf, meaning}
 use Rattle.commands.specs.declared.Command.{Command}
@@ -40,9 +41,9 @@ policyOf f =
       rights = rightsOf f;
       commands = commandsOf f;
       matrix = matrixIn f;
-      carries = carriesTable (carriesIn f);
-      carried = carriedOf (rightsOf f) (carriesTable (carriesIn f));
-      carriers = carriersOf (rightsOf f) (carriesTable (carriesIn f));
+      carries = carriesIn f;
+      carried = carriedOf (rightsOf f) (carriesIn f);
+      carriers = carriersOf (rightsOf f) (carriesIn f);
       command = commandTable f (commandsOf f);
     }
 
@@ -70,4 +71,4 @@ over f at s = take at f ++ s ++ drop (at + length s) f
 
 -- the file with the state's kinds and cells: "writes only kinds and cells of the lent file"
 unfoldable pub written : List ℕ → State → List ℕ
-written f m = over (over f (offsetOf f 0) (kindsOf m)) (offsetOf f 1) (cellsOf m)
+written f m = over (over f (offsetOf f 0) (kindsOf m)) (offsetOf f 1) (bytesOf (cellsOf m))

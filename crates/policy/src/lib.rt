@@ -4,13 +4,13 @@ ghost use Prim.Native.Nat.{_+_, _*_, _≤_, _<_};
 ghost use lib.ListN.{length, getD};
 ghost use Rattle.protection.specs.Limits.{commands};
 ghost use Rattle.layout.specs.File.{rightsOf, carriesIn, commandIn};
-ghost use Rattle.carries.specs.Bytes.{carriesTable};
 ghost use Rattle.policy.specs.Contents.{matrixIn, commandsRead, noPolicy, refusedRead, policyRead};
 ghost use Rattle.commands.specs.Contents.{missing, commandRead};
 ghost use Rattle.policy.specs.Layout.{MatrixInside, CarriesInside, CommandInside, CommandsInside};
 use commands::Command;
 use commands::CommandRead;
 use matrix::Matrix;
+use rights::Set;
 
 // How many rights and commands there are, the matrix, and the commands; places behind the last command hold none. Of each right, what the file says that it
 // carries, and through further rights the set of those that it carries and of those that carry it.
@@ -18,9 +18,9 @@ pub struct Policy {
     pub rights: u8,
     pub commands: u8,
     pub matrix: Matrix,
-    pub carries: [u8; Matrix::RIGHTS as usize],
-    pub carried: [u8; Matrix::RIGHTS as usize],
-    pub carriers: [u8; Matrix::RIGHTS as usize],
+    pub carries: [Set; Matrix::RIGHTS as usize],
+    pub carried: [Set; Matrix::RIGHTS as usize],
+    pub carriers: [Set; Matrix::RIGHTS as usize],
     pub command: [Command; Policy::COMMANDS],
 }
 
@@ -46,9 +46,9 @@ impl Policy {
             rights: 0,
             commands: 0,
             matrix: Matrix::empty(),
-            carries: [0u8; Matrix::RIGHTS as usize],
-            carried: [0u8; Matrix::RIGHTS as usize],
-            carriers: [0u8; Matrix::RIGHTS as usize],
+            carries: [rights::NONE; Matrix::RIGHTS as usize],
+            carried: [rights::NONE; Matrix::RIGHTS as usize],
+            carriers: [rights::NONE; Matrix::RIGHTS as usize],
             command: [Command::none(); Policy::COMMANDS],
         }
     }
@@ -62,7 +62,7 @@ impl Policy {
     }
 }
 
-// A copy of the kinds and the cells.
+// The kinds and the cells.
 fn matrix_of(file: &[u8]) -> Matrix
     requires { ⌜ MatrixInside (now file) ⌝ }
     ensures { λ r. ⌜ r ≡ matrixIn (now (file .entry)) ⌝ }
@@ -72,21 +72,21 @@ fn matrix_of(file: &[u8]) -> Matrix
     let mut kinds = [0u8; Matrix::NAMES];
     bytes::copy(&file[k..k_end], &mut kinds);
     let c = layout::word_at(file, 6);
-    let c_end = c + Matrix::NAMES * Matrix::NAMES;
-    let mut cells = [0u8; Matrix::NAMES * Matrix::NAMES];
-    bytes::copy(&file[c..c_end], &mut cells);
+    let c_end = c + rights::bytes::SIZE * (Matrix::NAMES * Matrix::NAMES);
+    let mut cells = [rights::NONE; Matrix::NAMES * Matrix::NAMES];
+    rights::bytes::read_sets(&file[c..c_end], &mut cells);
     Matrix { kinds, cells }
 }
 
-// A copy of the carries, in front of zeros.
-fn carries_of(file: &[u8], g: u8) -> [u8; Matrix::RIGHTS as usize]
+// The carries, in front of empty sets.
+fn carries_of(file: &[u8], g: u8) -> [Set; Matrix::RIGHTS as usize]
     requires { ⌜ CarriesInside (now file) g ⌝ }
-    ensures { λ r. ⌜ r ≡ carriesTable (carriesIn (now (file .entry))) ⌝ }
+    ensures { λ r. ⌜ r ≡ carriesIn (now (file .entry)) ⌝ }
 {
     let start = layout::word_at(file, 10);
-    let end = start + g as usize;
-    let mut carries = [0u8; Matrix::RIGHTS as usize];
-    bytes::copy(&file[start..end], &mut carries);
+    let end = start + rights::bytes::SIZE * (g as usize);
+    let mut carries = [rights::NONE; Matrix::RIGHTS as usize];
+    rights::bytes::read_sets(&file[start..end], &mut carries);
     carries
 }
 

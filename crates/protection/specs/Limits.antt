@@ -1,4 +1,5 @@
 -- The limits of document 01: "The limits 32, 8, 4, 6 and 30 belong to the matrix and to the rule and are stated there once."
+-- Of rights there are 12 (document 02, C-21).
 -- The code has them once more, as the associated constants of `Matrix` and of `Command`.
 use Prim.Native.Nat.{ℕ}
 
@@ -8,7 +9,7 @@ names = 32
 
 -- rights are the numbers below g, which is at most this
 abbrev pub rights : ℕ
-rights = 8
+rights = 12
 
 -- names that may exist where a verdict is asked for
 abbrev pub startNames : ℕ

@@ -1,11 +1,11 @@
 -- What is refused of every question that the rounds answer (document 01, "Refused, by whom": 22 to 24).
-use Prim.Native.Nat.{ℕ, _*_}
+use Prim.Native.Nat.{ℕ, _+_, _*_}
 use mathlib.Core.Bool.{Bool, true, not, _&&_}
 use mathlib.Core.List.{List, [], _∷_}
 use lib.Dec.{ltb}
 use lib.ListN.{length}
 use Rattle.cases.specs.Cases.{pick}
-use Rattle.protection.specs.Limits.{startNames}
+use Rattle.protection.specs.Limits.{rights, startNames}
 use Rattle.protection.specs.State.{State}
 use Rattle.protection.specs.Size.{namesOf, stepBound}
 use Rattle.protection.specs.Command.{Command, System}
@@ -26,3 +26,7 @@ startRefusal S m =
 -- "24 buffer shorter than 5 × .." n is the buffer's length
 abbrev pub sizeRefusal : System → State → ℕ → ℕ
 sizeRefusal S m n = orElse (startRefusal S m) (pick (ltb n (5 * stepBound (S .rights) m)) 24 0)
+
+-- "g × (subjects + 1) × (names + 2) + 4" at its largest: all rights, and 30 names, all subjects
+abbrev pub mostSteps : ℕ
+mostSteps = rights * (startNames + 1) * (startNames + 2) + 4

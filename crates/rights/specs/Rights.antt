@@ -5,9 +5,9 @@ use lib.Bits.{bitOr, bitXor}
 use lib.Dec.{eqb, ltb}
 use Rattle.cases.specs.Cases.{pick}
 
--- digits of a set in the code, where it is a byte; the definitions below are of any width
+-- digits of a set in the code, whose type `Set` it is; the definitions below are of any width
 abbrev pub width : ℕ
-width = 8
+width = 16
 
 abbrev pub bit : ℕ → ℕ → ℕ
 bit c i = c / 2 ^ i % 2

@@ -13,6 +13,7 @@ use lib.Seq.{length-take-le}
 use Rattle.cases.specs.Cases.{pick, tabulate}
 use Rattle.cases.proofs.Bools.{or-right}
 use Rattle.cases.proofs.Lists.{length-tabulate}
+use Rattle.questions.specs.Refusals.{mostSteps}
 use Rattle.protection.specs.Limits.{rights, startNames, unused}
 use Rattle.protection.specs.State.{State}
 use Rattle.protection.specs.Size.{namesOf}
@@ -80,8 +81,8 @@ module _ (S : System) (r : ℕ) (m : State) (b : List ℕ) (answer : Judgement) 
       let shorter : init (calls b' n) ≡ calls b' (n - 1) = ap (λ (k : ℕ). init (calls b' k)) e ∙ init-tabulate (stepCall b') (n - 1) 0 in
       D .steps-leak t .sooner (subst (λ (l : List Call). T (leaks unbounded S r m l)) (sym shorter) w)
 
-  -- no verdict has more than 7,940 steps
-  pub few-written : S .rights ≤ rights → namesOf m ≤ startNames → n ≤ 7940
+  -- no verdict has more than the bound at its largest
+  pub few-written : S .rights ≤ rights → namesOf m ≤ startNames → n ≤ mostSteps
   few-written g k = omega (arith, D .within, few-steps (S .rights) m g k)
 
   -- the buffer was the bytes that the steps are written over, and then what stands there still

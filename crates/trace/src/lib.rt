@@ -15,6 +15,7 @@ use commands::Command;
 use execution::Answer;
 use matrix::Matrix;
 use policy::Policy;
+use rights::Set;
 
 // One step of a trace: a command's number and four actuals.
 struct Step {
@@ -90,7 +91,7 @@ fn end_of(answer: Answer, i: usize) -> Replay
 fn play(
     p: Policy,
     kinds: &mut [u8; Matrix::NAMES],
-    cells: &mut [u8; Matrix::NAMES * Matrix::NAMES],
+    cells: &mut [Set; Matrix::NAMES * Matrix::NAMES],
     step: Step,
     right: u8,
 ) -> Answer

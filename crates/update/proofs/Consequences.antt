@@ -5,13 +5,12 @@ use mathlib.Core.Path.{_≡_, refl, sym, _∙_}
 use mathlib.Core.List.{List}
 use mathlib.Core.Logic.{_↔_, _⊎_, inl, inr}
 use mathlib.Core.Option.{some}
-use native.Mathlib.Decide.{decLt, ℕ-discrete}
+use native.Mathlib.Decide.{ℕ-discrete}
 use native.Mathlib.Omega.{arith}
 use mathlib.Core.Bool.{false, not}
 use lib.Dec.{T, ltb→lt}
-use lib.ListN.{getD, getElem?, List·getD-eq-default}
-use Rattle.cases.proofs.Lists.{length-tabulate}
-use Rattle.protection.specs.Limits.{names, rights, parameters}
+use lib.ListN.{getD, getElem?}
+use Rattle.protection.specs.Limits.{names, parameters}
 use Rattle.protection.specs.Command.{Command, Call, Actuals, actuals, spare}
 use Rattle.protection.specs.Execution.{bounded}
 use Rattle.protection.specs.Paper.{Configuration, configuration, Same, Executes, ExecutesUnder}
@@ -21,8 +20,6 @@ use Rattle.protection.proofs.Carrying.{executes-plain}
 use Rattle.rights.specs.Rights.{has}
 use Rattle.rights.proofs.Sets.{has-none}
 use Rattle.layout.specs.File.{carriesIn}
-use Rattle.carries.specs.Bytes.{carriesTable}
-use Rattle.carries.proofs.Sets.{getD-table}
 use Rattle.policy.specs.Refusals.{refusal}
 use Rattle.policy.specs.Contents.{policyOf, fileState, fileSystem}
 use Rattle.update.specs.Demand2.{Demand2}
@@ -99,16 +96,10 @@ pub record PaperDemand2 (f : List ℕ) (x : Call) (r : ℕ) (f' : List ℕ) : Ty
 module _ (f : List ℕ) (none : (i : ℕ) → getD (carriesIn f) i 0 ≡ 0) where
   carried-none : (i j : ℕ) → fileSystem f .carried i j ≡ false
   unfolding policyOf
-  carried-none i j = go (decLt i rights)
+  carried-none i j = empty (getD (carriesIn f) i 0) (none i)
     where
       empty : (c : ℕ) → c ≡ 0 → has c j ≡ false
       empty c e = rw e (has-none j)
-
-      go : Dec (i < rights) → has (getD (carriesTable (carriesIn f)) i 0) j ≡ false
-      go (yes l) = empty (getD (carriesTable (carriesIn f)) i 0) (getD-table (λ k. getD (carriesIn f) k 0) i l ∙ none i)
-      go (no l) =
-          empty (getD (carriesTable (carriesIn f)) i 0)
-          (List·getD-eq-default (carriesTable (carriesIn f)) 0 {n = i} (omega (arith, length-tabulate (λ k. getD (carriesIn f) k 0) rights 0)))
 
   pub file-plain : (C : Command) (a : Actuals) (D E : Configuration) → ExecutesUnder (fileSystem f) C a D E ↔ Executes C a D E
   file-plain = executes-plain (fileSystem f) carried-none

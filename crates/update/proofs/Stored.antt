@@ -1,5 +1,5 @@
 -- Writing kinds and cells into the lent file, and what a rule run answers of it. Assumes nothing.
-use Prim.Native.Nat.{ℕ, _+_, _-_, _≤_}
+use Prim.Native.Nat.{ℕ, _+_, _*_, _-_, _≤_}
 use mathlib.Core.Path.{_≡_, refl, sym, ap, ap₂, _∙_}
 use mathlib.Core.Bool.{Bool, true, false}
 use mathlib.Core.List.{List, [], _∷_, _++_, append-assoc, append-nil}
@@ -9,6 +9,8 @@ use lib.Dec.{eqb}
 use lib.ListN.{length, take, drop, length-drop, drop-of-length-le}
 use lib.Seq.{take-all, take-length, drop-drop}
 use Rattle.cases.specs.Cases.{pick}
+use Rattle.rights.specs.Bytes.{setBytes, bytesOf}
+use Rattle.rights.proofs.SetBytes.{length-bytes}
 use Rattle.protection.specs.Limits.{rights}
 use Rattle.protection.specs.Command.{Call}
 use Rattle.protection.specs.Execution.{Outcome, refused, done}
@@ -48,14 +50,21 @@ stored f s p at h e =
     let q : p ≡ s ++ drop (at + length s) f = e ∙ ap₂ (λ (x y : List ℕ). x ++ drop (length s) y) (take-length s) a ∙ ap (λ (x : List ℕ). s ++ x) (drop-drop (length s) at f) in
     ap₂ (λ (x y : List ℕ). take at f ++ (x ++ y)) q b ∙ ap (λ (x : List ℕ). take at f ++ x) (append-nil (s ++ drop (at + length s) f)) ∙ sym (append-assoc (take at f) s (drop (at + length s) f))
 
+-- a list of sets written into a part of its own length that begins at a place
+pub stored-sets : (f s p : List ℕ) (at n : ℕ) → n ≡ at + setBytes * length s → p ≡ bytesOf s → take at f ++ (p ++ drop (n - at) (drop at f)) ≡ over f at (bytesOf s)
+stored-sets f s p at n d e =
+    let w : n - at ≡ length (bytesOf s) = let z = length-bytes s in omega arith in
+    ap₂ (λ (x : List ℕ) (k : ℕ). take at f ++ (x ++ drop k (drop at f))) e w ∙ ap (λ (x : List ℕ). take at f ++ (bytesOf s ++ x)) (drop-drop (length (bytesOf s)) at f)
+    ∙ sym (append-assoc (take at f) (bytesOf s) (drop (at + length (bytesOf s)) f))
+
 -- kinds and cells written one after the other are the state written
-pub store-is : (f x y : List ℕ) (m : Matrix) (k c : ℕ) → Canonical rights (m .kinds) (m .cells) → k ≡ word f 2 → c ≡ word f 6 → x ≡ over f k (m .kinds) → y ≡ over x c (m .cells) → y ≡ written f (stateOf m)
+pub store-is : (f x y : List ℕ) (m : Matrix) (k c : ℕ) → Canonical rights (m .kinds) (m .cells) → k ≡ word f 2 → c ≡ word f 6 → x ≡ over f k (m .kinds) → y ≡ over x c (bytesOf (m .cells)) → y ≡ written f (stateOf m)
 unfolding written
 store-is f x y m k c K dk dc dx dy =
     let ks = kinds-back rights (m .kinds) (m .cells) K in
     let cs = cells-back rights (m .kinds) (m .cells) K (omega arith) in
-    dy ∙ ap₂ (λ (l : List ℕ) (i : ℕ). over l i (m .cells)) (dx ∙ ap (λ (i : ℕ). over f i (m .kinds)) dk) dc
-    ∙ ap₂ (λ (a b : List ℕ). over (over f (word f 2) a) (word f 6) b) (sym ks) (sym cs)
+    dy ∙ ap₂ (λ (l : List ℕ) (i : ℕ). over l i (bytesOf (m .cells))) (dx ∙ ap (λ (i : ℕ). over f i (m .kinds)) dk) dc
+    ∙ ap₂ (λ (a b : List ℕ). over (over f (word f 2) a) (word f 6) (bytesOf b)) (sym ks) (sym cs)
 
 -- ---- a rule run on a file that was not refused
 module _ (f : List ℕ) (x : PolicyRead) (d : x ≡ policyRead f) (z : x .refused ≡ 0) where

@@ -1,7 +1,8 @@
 // Running a command on the lent file.
 ghost use mathlib.Core.Path.{_≡_};
-ghost use Prim.Native.Nat.{_+_, _≤_};
+ghost use Prim.Native.Nat.{_+_, _*_, _≤_};
 ghost use lib.ListN.{length};
+ghost use Rattle.rights.specs.Bytes.{setBytes, bytesOf};
 ghost use Rattle.protection.specs.Limits.{rights};
 ghost use Rattle.matrix.specs.Canonical.{Canonical};
 ghost use Rattle.matrix.specs.Matrices.{stateOf};
@@ -10,6 +11,7 @@ ghost use Rattle.policy.specs.Layout.{MatrixInside};
 ghost use Rattle.update.specs.Files.{FileRun};
 use execution::Answer;
 use matrix::Matrix;
+use rights::Set;
 
 // The bytes in the place of those that stand from a place on.
 fn store_at(file: &mut [u8], at: usize, s: &[u8])
@@ -17,6 +19,15 @@ fn store_at(file: &mut [u8], at: usize, s: &[u8])
     ensures { λ _. ⌜ now (file .exit) ≡ over (now (file .entry)) at (now (s .entry)) ⌝ }
 {
     bytes::copy(s, &mut file[at..]);
+}
+
+// The sets' bytes in the place of those that stand from a place on.
+fn store_sets(file: &mut [u8], at: usize, sets: &[Set])
+    requires { ⌜ at + setBytes * length (now sets) ≤ length (now file) ⌝ }
+    ensures { λ _. ⌜ now (file .exit) ≡ over (now (file .entry)) at (bytesOf (now (sets .entry))) ⌝ }
+{
+    let end = at + rights::bytes::SIZE * sets.len();
+    rights::bytes::write_sets(sets, &mut file[at..end]);
 }
 
 // The matrix written into the file.
@@ -27,7 +38,7 @@ fn store(file: &mut [u8], m: Matrix)
     let k = layout::word_at(file, 2);
     let c = layout::word_at(file, 6);
     store_at(file, k, &m.kinds);
-    store_at(file, c, &m.cells);
+    store_sets(file, c, &m.cells);
 }
 
 // Runs a command on the file: 0, or the refusal, with the file as it was.

@@ -4,7 +4,7 @@
 use reference::brute::{self, Carrying, Found, Instance, Move, State};
 use reference::carrying::carriers;
 use reference::desk::desk;
-use reference::file::{self, Contents};
+use reference::file::{self, Contents, Set};
 use reference::filled::Course;
 use reference::generate::*;
 use reference::judge::{judge, judge_part, SAFE, UNSAFE};
@@ -17,7 +17,7 @@ use reference::rounds::most_steps;
 use reference::sheet::{sheet, ENTRY};
 use reference::trusted::office;
 use reference::verdict::{needed, Question};
-use reference::{carried, lists, second, stored, table};
+use reference::{carried, lists, second, stored, table, twelve};
 
 /// A draft with these kinds and these rights in cells.
 fn draft(rights: u8, kinds: &[(usize, u8)], cells: &[(usize, usize, u8)]) -> Draft {
@@ -206,56 +206,51 @@ fn main() {
     });
 
     report.group("rights that carry: verdicts by hand", 100, |group| {
-        for case in carried::verdicts() {
-            let file = case.draft.file();
-            let length = needed(&file);
-            let mut wanted = case.steps.concat();
-            let answer = (case.code, case.steps.len() as u64);
-            wanted.resize(length, 170);
-            let (code, steps, buffer) = judged(&case.draft, case.right, length);
-            let good = (code, steps) == answer && buffer == wanted;
-            group.input(good, || {
-                format!("{}: {code} with {steps}, {}", case.what, hex(&buffer))
-            });
-            let mut buffer = vec![170; length];
-            let other = second::judge(&file, case.right, &mut buffer);
-            let good = other == answer && buffer == wanted;
-            group.input(good, || format!("{}: second {other:?}", case.what));
-            if case.draft.rights as usize <= brute::RIGHTS {
-                let contents = file::read(&file).unwrap();
-                let found = brute::search(&contents, case.right, 2, 100_000).found;
-                let wanted = match case.code {
-                    UNSAFE => Found::Leak,
-                    _ => Found::NoLeak,
-                };
-                group.input(found == wanted, || format!("{}: {found:?}", case.what));
-            }
-        }
+        verdicts_by_hand(group, carried::verdicts());
     });
 
     report.group("rights that carry: runs by hand", 24, |group| {
-        for case in carried::played() {
-            let file = case.draft.file();
-            let trace = case.trace.concat();
-            let answers = [replay, second::replay].map(|play| play(&file, &trace, case.right));
-            group.input(answers == [case.answer; 2], || {
+        runs_by_hand(group, carried::played());
+    });
+
+    report.group("twelve rights: files by hand", 2_900, |group| {
+        for case in twelve::checked() {
+            let answers = [file::check, second::check].map(|check| check(&case.file));
+            group.input(answers == [case.refusal; 2], || {
                 format!("{}: {answers:?}", case.what)
             });
-            for run in [run_file, second::run] {
-                let mut given = file.clone();
-                for &[rule, actuals @ ..] in &case.trace {
-                    run(&mut given, rule, actuals);
-                }
-                group.input(given == case.file_after(), || {
-                    format!("{}: left {}", case.what, hex(&given))
-                });
-            }
         }
+        let length = twelve::longest().len();
+        group.demand(length == 3_494, || format!("the longest has {length}"));
+    });
+
+    report.group("twelve rights: verdicts by hand", 200, |group| {
+        verdicts_by_hand(group, twelve::verdicts());
+    });
+
+    report.group("twelve rights: runs by hand", 240, |group| {
+        runs_by_hand(group, twelve::played());
+    });
+
+    report.group("twelve rights: the largest bound", 5, |group| {
+        let (draft, right) = twelve::fullest();
+        let contents = file::read(&draft.file()).unwrap();
+        same(group, most_steps(&contents), 11_908);
+        same(group, reference::desk::BUFFER, 59_540);
+        let (code, steps, buffer) = judged(&draft, right, 59_540);
+        same(group, (code, steps), (UNSAFE, 10_916));
+        let behind = &buffer[5 * 10_916..];
+        same(group, behind.iter().all(|&byte| byte == 170), true);
+        same(
+            group,
+            judged(&draft, right, 59_539),
+            (24, 0, vec![170; 59_539]),
+        );
     });
 
     report.group("rights that carry: 44 comes first", 300, |group| {
         for file in carried::wrong() {
-            for (trace, right) in [(&[][..], 0), (&[0, 0, 255, 255, 255], 0), (&[1; 3], 9)] {
+            for (trace, right) in [(&[][..], 0), (&[0, 0, 255, 255, 255], 0), (&[1; 3], 13)] {
                 let answers = [replay, second::replay].map(|play| play(&file, trace, right));
                 group.input(answers == [(44, 0); 2], || {
                     format!("{answers:?}, {}", hex(&file))
@@ -271,8 +266,8 @@ fn main() {
 
     report.group("closures: chains of links", 4_000, |group| {
         // Every relation of three rights, and many of more.
-        let mut relations: Vec<Vec<u8>> = (0..512u16)
-            .map(|bits| (0..3).map(|i| (bits >> (3 * i) & 7) as u8).collect())
+        let mut relations: Vec<Vec<Set>> = (0..512)
+            .map(|bits| (0..3).map(|i| bits >> (3 * i) & 7).collect())
             .collect();
         while relations.len() < 4_000 {
             relations.push(any(random).carries);
@@ -573,9 +568,60 @@ fn main() {
     report.finish();
 }
 
+/// Both implementations give the verdict and every byte of the buffer, and the brute
+/// search the verdict where the table is small enough.
+fn verdicts_by_hand(group: &mut Group, cases: Vec<carried::Verdict>) {
+    for case in cases {
+        let file = case.draft.file();
+        let length = needed(&file);
+        let mut wanted = case.steps.concat();
+        let answer = (case.code, case.steps.len() as u64);
+        wanted.resize(length, 170);
+        let (code, steps, buffer) = judged(&case.draft, case.right, length);
+        let good = (code, steps) == answer && buffer == wanted;
+        group.input(good, || {
+            format!("{}: {code} with {steps}, {}", case.what, hex(&buffer))
+        });
+        let mut buffer = vec![170; length];
+        let other = second::judge(&file, case.right, &mut buffer);
+        let good = other == answer && buffer == wanted;
+        group.input(good, || format!("{}: second {other:?}", case.what));
+        if case.draft.rights as usize <= brute::RIGHTS {
+            let contents = file::read(&file).unwrap();
+            let found = brute::search(&contents, case.right, 2, 100_000).found;
+            let wanted = match case.code {
+                UNSAFE => Found::Leak,
+                _ => Found::NoLeak,
+            };
+            group.input(found == wanted, || format!("{}: {found:?}", case.what));
+        }
+    }
+}
+
+/// Both implementations give the answer and leave the file.
+fn runs_by_hand(group: &mut Group, cases: Vec<carried::Played>) {
+    for case in cases {
+        let file = case.draft.file();
+        let trace = case.trace.concat();
+        let answers = [replay, second::replay].map(|play| play(&file, &trace, case.right));
+        group.input(answers == [case.answer; 2], || {
+            format!("{}: {answers:?}", case.what)
+        });
+        for run in [run_file, second::run] {
+            let mut given = file.clone();
+            for &[rule, actuals @ ..] in &case.trace {
+                run(&mut given, rule, actuals);
+            }
+            group.input(given == case.file_after(), || {
+                format!("{}: left {}", case.what, hex(&given))
+            });
+        }
+    }
+}
+
 /// Whether the reference's sets of carriers are those that the definition says: a
 /// chain of links of any length, here of at most as many as there are rights.
-fn closures_agree(carries: &[u8]) -> bool {
+fn closures_agree(carries: &[Set]) -> bool {
     let rights = carries.len();
     let links = |i: usize, j: usize| carries[i] >> j & 1 == 1;
     let mut chained: Vec<Vec<bool>> = (0..rights)

@@ -5,7 +5,7 @@
 
 use reference::damage::{plant, Fault};
 use reference::desk::desk;
-use reference::file;
+use reference::file::{self, RIGHTS};
 use reference::generate::*;
 use reference::random::Random;
 use reference::report::{hex, Arguments, Group, Report};
@@ -135,18 +135,16 @@ fn same(group: &mut Group, given: Result<Vec<u8>, String>, wanted: &[u8], input:
 /// Cases and generated inputs of all sorts that the judge can be asked about.
 fn generated(random: &mut Random) -> Vec<u8> {
     let (draft, right) = match random.below(4) {
-        0 => (any(random), random.below(9) as u8),
+        0 => (any(random), random.below(usize::from(RIGHTS) + 1) as u8),
         1 => chain(random),
         _ => (small(random), random.below(2) as u8),
     };
     let mut input = vec![right];
     let fault = Fault::any(random, draft.rules.len());
-    let damaged = if random.percent(20) {
-        plant(random, &draft, &[fault])
-    } else {
-        None
-    };
-    input.extend(damaged.unwrap_or_else(|| draft.file()));
+    input.extend(match random.percent(20) {
+        true => plant(random, &draft, &[fault]),
+        false => draft.file(),
+    });
     input
 }
 

@@ -4,12 +4,13 @@
 //! the stack that the calls use, `install`, how many crates README counts, and
 //! that every page that a page leads to is there. Argument: the seed.
 
+use reference::file::RIGHTS;
 use reference::generate::*;
 use reference::random::Random;
 use reference::report::{hex, Arguments, Group, Report};
 use reference::stack::used;
 use reference::trusted::any_names;
-use reference::{file, scene};
+use reference::{file, scene, twelve};
 use std::fs;
 use std::path::{Path, PathBuf};
 use std::process::Command;
@@ -75,7 +76,7 @@ fn format_page(group: &mut Group) {
         format!("the bytes: {}", hex(&file))
     });
     group.input(
-        file.len() == 1_086 && page.contains("file of 1,086 bytes"),
+        file.len() == 2_112 && page.contains("file of 2,112 bytes"),
         || "its length".to_string(),
     );
     group.input(check::check(&file) == 0, || "not accepted".to_string());
@@ -85,8 +86,9 @@ fn format_page(group: &mut Group) {
     let changed: Vec<usize> = (0..file.len())
         .filter(|&at| file[at] != after[at])
         .collect();
-    let good = code == 0 && changed == [84] && after[84] == 2;
-    let said = page.contains("byte 84, which is cell (1, 2) at 50 + 32 × 1 + 2, becomes `02`");
+    let good = code == 0 && changed == [118] && after[118] == 2;
+    let said = page
+        .contains("byte 118, the low one of cell (1, 2) at 50 + 2 × (32 × 1 + 2), becomes `02`");
     group.input(good && said, || format!("the run: {code}, {changed:?}"));
     let mut buffer = [0; 170];
     let unsafe_ = judge::judge(&file, 1, &mut buffer);
@@ -99,31 +101,24 @@ fn format_page(group: &mut Group) {
     let safe = judge::judge(&file, 0, &mut buffer).0;
     group.input(safe == 0, || format!("right 0: {safe}"));
     let mut bare = file.clone();
-    bare[1_074] = 0;
+    bare[2_098] = 0;
     let safe = judge::judge(&bare, 1, &mut buffer).0;
-    let said = page.contains("With `00 00` at 1,074 right 1 is safe too");
+    let said = page.contains("With `00 00` at 2,098 right 1 is safe too");
     group.input(safe == 0 && said, || {
         format!("right 1, nothing carried: {safe}")
     });
-    let lengths = (Draft::empty(1).file().len(), longest_length());
-    let said = page.contains("an accepted one has 1,071 to 2,454");
-    group.input(lengths == (1_071, 2_454) && said, || {
-        format!("lengths {lengths:?}")
+    let ends = [Draft::empty(1).file(), twelve::longest()];
+    let accepted = ends.iter().all(|file| check::check(file) == 0);
+    let lengths = ends.map(|file| file.len());
+    let said = page.contains("an accepted one has 2,096 to 3,494");
+    group.input(lengths == [2_096, 3_494] && accepted && said, || {
+        format!("lengths {lengths:?}, accepted {accepted}")
     });
-}
-
-/// The longest accepted file.
-fn longest_length() -> usize {
-    let mut draft = Draft::empty(8);
-    draft.kinds[0] = 2;
-    for _ in 0..32 {
-        draft
-            .rules
-            .push(rule(1, &[[0, 0, 0]; 4], &[[ENTER, 0, 0, 0]; 6]));
-    }
-    let file = draft.file();
-    assert_eq!(check::check(&file), 0);
-    file.len()
+    // The format of before is refused as the page says.
+    let of_before = twelve::of_before(8);
+    let refusal = check::check(&of_before);
+    let said = page.contains("is refused with 5");
+    group.input(refusal == 5 && said, || format!("of before: {refusal}"));
 }
 
 /// The page has one line for each number, in the program's own words.
@@ -255,12 +250,22 @@ fn install(group: &mut Group) {
     group.input(good, || "an option was taken for a folder".to_string());
 }
 
-/// A number that the header defines.
+/// A number that the header defines, as a C compiler reads it.
 fn defined(name: &str) -> usize {
-    let text = page("include/tugcaphi.h");
-    let line = format!("#define {name} ");
-    let found = text.lines().find_map(|one| one.strip_prefix(&line));
-    let number = found.and_then(|rest| rest.split(' ').next()?.parse().ok());
+    let scene = scene::Scene::new("defined");
+    let text = format!(
+        "#include <stdio.h>\n#include \"tugcaphi.h\"\n\
+         int main(void) {{ printf(\"%zu\", (size_t){name}); }}\n"
+    );
+    scene.write("number.c", text.as_bytes());
+    let (source, program) = (scene.path("number.c"), scene.path("number"));
+    let compiler = Command::new("gcc")
+        .args(["-I", "../include", "-o"])
+        .args([&program, &source])
+        .output();
+    let made = compiler.is_ok_and(|output| output.status.success());
+    let output = Command::new(program).output().ok().filter(|_| made);
+    let number = output.and_then(|output| String::from_utf8(output.stdout).ok()?.parse().ok());
     number.unwrap_or_default()
 }
 
@@ -326,13 +331,31 @@ fn stack(group: &mut Group, random: &mut Random) {
     });
 }
 
+/// As many rights as the header says are taken, and one more is not; a set has as
+/// many bytes.
+fn rights(group: &mut Group) {
+    let (most, set) = (defined("TUGCAPHI_RIGHTS"), defined("TUGCAPHI_SET"));
+    for (rights, wanted) in [(1, 0), (most, 0), (most + 1, 2)] {
+        let code = check::check(&Draft::empty(rights as u8).file());
+        group.input(code == wanted, || format!("{rights} rights: {code}"));
+    }
+    for (bytes, wanted) in [(set, 0), (set - 1, 5), (set + 1, 5)] {
+        let mut sections = Draft::empty(1).sections();
+        sections[1].resize(bytes * 32 * 32, 0);
+        let code = check::check(&joined(1, &sections));
+        group.input(code == wanted, || format!("{bytes} bytes a cell: {code}"));
+    }
+}
+
 /// The buffer that the header calls long enough is, and one byte less is not.
 fn buffer_length(group: &mut Group) {
-    let mut draft = Draft::empty(8);
+    let mut draft = Draft::empty(RIGHTS);
     draft.kinds[..30].fill(2);
     let file = draft.file();
     assert!(file::check(&file) == 0);
     let length = defined("TUGCAPHI_BUFFER");
+    let said = page("include/tugcaphi.h").contains("whatever the file: 59,540.");
+    group.demand(length == 59_540 && said, || format!("a buffer of {length}"));
     for (length, wanted) in [(length, 0), (length.saturating_sub(1), 24)] {
         let code = judge::judge(&file, 0, &mut vec![0; length]).0;
         group.input(code == wanted, || format!("judge, {length} bytes: {code}"));
@@ -437,9 +460,10 @@ fn main() {
     let arguments = Arguments::read("docs");
     let mut random = Random::new(arguments.seed);
     let mut report = Report::default();
-    report.group("docs/FORMAT.md: the worked example", 8, format_page);
+    report.group("docs/FORMAT.md: the worked example", 9, format_page);
     report.group("docs/REFUSALS.md: the program's words", 23, refusals_page);
     report.group("include/tugcaphi.h and its example", 3, header);
+    report.group("include/tugcaphi.h: the rights", 6, rights);
     report.group("include/tugcaphi.h: the buffer", 8, buffer_length);
     report.group("include/tugcaphi.h: the list of cells", 4, list_length);
     report.group("include/tugcaphi.h: the sheet", 3, sheet_length);

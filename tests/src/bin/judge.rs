@@ -7,15 +7,16 @@ mod boundary_judge;
 mod boundary_replay;
 
 use reference::brute::{exhausted, Found, Search};
-use reference::carried;
-use reference::file::{self, Contents};
+use reference::carried::{self, Verdict};
+use reference::desk::BUFFER;
+use reference::file::{self, Contents, RIGHTS};
 use reference::generate::*;
 use reference::judge::{judge, Account, SAFE, UNSAFE};
 use reference::obstacles::{obstruct, wrong_file};
 use reference::random::Random;
 use reference::report::{hex, Arguments, Counts, Group, Report};
-use reference::second;
 use reference::verdict::{compare, needed, Library, Question};
+use reference::{second, twelve};
 
 /// More states than this are given up; nothing is known of such a table.
 const LIMIT: usize = 3_000;
@@ -99,6 +100,29 @@ impl Carryings {
     }
 }
 
+/// The verdict and every byte of the buffer, as they are written down.
+fn by_hand(group: &mut Group, library: Library, random: &mut Random, cases: Vec<Verdict>) {
+    for case in cases {
+        let file = case.draft.file();
+        let question = Question::new(&file, case.right);
+        let length = needed(&file);
+        compare(group, library, random, question, length);
+        let mut buffer = vec![170; length];
+        let answer = (library.judge)(question, &mut buffer);
+        let mut wanted = case.steps.concat();
+        wanted.resize(length, 170);
+        let good = answer == (case.code, case.steps.len() as u64) && buffer == wanted;
+        group.demand(good, || {
+            let end = 5 * answer.1.min(20) as usize;
+            format!(
+                "{}: {answer:?}, {}",
+                case.what,
+                hex(&buffer[..end.min(length)])
+            )
+        });
+    }
+}
+
 fn main() {
     let arguments = Arguments::read("judge");
     let library = if arguments.own {
@@ -167,24 +191,21 @@ fn main() {
     });
 
     report.group("rights that carry: verdicts by hand", 50, |group| {
-        for case in carried::verdicts() {
-            let file = case.draft.file();
-            let question = Question::new(&file, case.right);
-            let length = needed(&file);
-            compare(group, library, random, question, length);
-            let mut buffer = vec![170; length];
-            let answer = (library.judge)(question, &mut buffer);
-            let mut wanted = case.steps.concat();
-            wanted.resize(length, 170);
-            let good = answer == (case.code, case.steps.len() as u64) && buffer == wanted;
-            group.demand(good, || {
-                let end = 5 * answer.1.min(20) as usize;
-                format!(
-                    "{}: {answer:?}, {}",
-                    case.what,
-                    hex(&buffer[..end.min(length)])
-                )
-            });
+        by_hand(group, library, random, carried::verdicts());
+    });
+
+    report.group("twelve rights: verdicts by hand", 100, |group| {
+        by_hand(group, library, random, twelve::verdicts());
+    });
+
+    report.group("twelve rights: the largest bound", 2, |group| {
+        let (draft, right) = twelve::fullest();
+        let file = draft.file();
+        for (length, wanted) in [(59_540, (UNSAFE, 10_916)), (59_539, (24, 0))] {
+            let question = Question::new(&file, right);
+            let (account, _) = compare(group, library, random, question, length);
+            let answer = (account.code, account.steps);
+            group.demand(answer == wanted, || format!("{length} bytes: {answer:?}"));
         }
     });
 
@@ -192,14 +213,13 @@ fn main() {
         let (mut safe, mut by_rounds, mut by_closing) = (0, 0, 0);
         let (mut dull, mut unknown, mut pools) = (0, 0, [0; 2]);
         let (mut all_states, mut most) = (0, 0);
-        let (mut destroyed, mut recreated, mut with_refused) = (0, 0, 0);
+        let (mut destroyed, mut recreated, mut with_refused, mut high) = (0, 0, 0, 0);
         let mut spares = Spares::default();
         let mut carryings = Carryings::default();
         while group.inputs < 24_000 {
-            let draft = small(random);
-            let file = draft.file();
-            let contents = file::read(&file).unwrap();
-            let right = if random.percent(80) { 0 } else { draft.rights - 1 };
+            let mut draft = small(random);
+            let contents = file::read(&draft.file()).unwrap();
+            let mut right = if random.percent(80) { 0 } else { draft.rights - 1 };
             let Some((further, brute)) = exhausted(&contents, right, LIMIT) else {
                 unknown += 1;
                 continue;
@@ -217,6 +237,14 @@ fn main() {
             recreated += u64::from(brute.recreated);
             with_refused += u64::from(brute.refused > 0);
 
+            // The rights' numbers change nothing.
+            if random.percent(50) {
+                let (other, numbers) = renumbered(random, &draft);
+                (draft, right) = (other, numbers[usize::from(right)]);
+                high += u64::from(right >= 8);
+            }
+            let file = draft.file();
+            let contents = file::read(&file).unwrap();
             let wanted = if found == Found::Leak { UNSAFE } else { SAFE };
             let length = needed(&file) + random.below(7);
             let (account, answer) = compare(group, library, random, Question::new(&file, right), length);
@@ -245,8 +273,9 @@ fn main() {
             pools[1], pools[0]
         );
         println!(
-            "  with a destroy {destroyed}, a name created anew {recreated}, a refused run {with_refused}"
+            "  with a destroy {destroyed}, a name created anew {recreated}, a refused run {with_refused}; asked for a right from 8 on {high}"
         );
+        group.demand(high >= 1_500, || format!("only {high} of a right from 8 on"));
         group.demand(destroyed >= 2_000, || format!("only {destroyed} with a destroy"));
         group.demand(recreated >= 1_000, || format!("only {recreated} with a name created anew"));
         group.demand(with_refused >= 10_000, || format!("only {with_refused} with a refused run"));
@@ -347,7 +376,7 @@ fn main() {
             // The first in the order is the answer.
             let (length, mut planted) = obstruct(random, &mut draft);
             if random.percent(20) {
-                right = random.pick(&[draft.rights, 8, 31, 255]);
+                right = random.pick(&[draft.rights, RIGHTS, 31, 255]);
                 planted.insert(0, 21);
             }
             let Some(&first) = planted.first() else {
@@ -365,8 +394,8 @@ fn main() {
     report.group("wrong files", 10_000, |group| {
         while group.inputs < 10_000 {
             let (file, fault) = wrong_file(random);
-            let right = random.below(10) as u8;
-            let length = random.pick(&[0, 10, 200, 40_000]);
+            let right = random.below(16) as u8;
+            let length = random.pick(&[0, 10, 200, BUFFER]);
             let (account, _) = compare(group, library, random, Question::new(&file, right), length);
             counts.add(account.code);
             group.demand(account.code == fault.refusal(), || {

@@ -4,11 +4,11 @@
 mod boundary;
 
 use reference::damage::{plant, wrong_table, Fault, RuleFault};
-use reference::file;
-use reference::generate::{any, longest, rule, Draft, ENTER};
+use reference::file::{self, Set, CELLS, RIGHTS, SET_BYTES};
+use reference::generate::{any, joined, longest, rule, Draft, ENTER};
 use reference::random::Random;
 use reference::report::{hex, Arguments, Counts, Group, Report};
-use reference::second;
+use reference::{second, twelve};
 
 /// The reader under test, and how often each answer was seen.
 struct Reader {
@@ -51,40 +51,91 @@ fn with_rules(random: &mut Random, least: usize) -> Draft {
     }
 }
 
-/// The carries (request C-19): every byte of them with every g, their length on
-/// both sides, and what comes before them and behind.
+/// The carries (requests C-19 and C-21): every pair of bytes of them with every g,
+/// their length on both sides, and what comes before them and behind.
 fn carries(report: &mut Report, reader: &mut Reader) {
-    report.group("44: every set that every right carries", 9_000, |group| {
-        for rights in 1..=8 {
-            for right in 0..rights as usize {
-                for carried in 0..=255 {
-                    let mut draft = Draft::empty(rights);
-                    draft.carries[right] = carried;
-                    let within = u16::from(carried) < 1 << rights;
-                    reader.expect(group, &draft.file(), if within { 0 } else { 44 });
+    // The number of rights on both sides of a byte's eight, and the largest.
+    let rights = [1, 8, 9, RIGHTS - 1, RIGHTS];
+    report.group("44: every set that a right carries", 320_000, |group| {
+        for rights in rights {
+            let mut file = Draft::empty(rights).file();
+            let end = file.len();
+            for carried in 0..=Set::MAX {
+                let within = carried < 1 << rights;
+                file[end - SET_BYTES..].copy_from_slice(&carried.to_le_bytes());
+                reader.expect(group, &file, if within { 0 } else { 44 });
+            }
+        }
+    });
+    report.group("7: every set in a cell", 320_000, |group| {
+        for rights in rights {
+            let mut draft = Draft::empty(rights);
+            draft.kinds[31] = 2;
+            let mut file = draft.file();
+            // The last cell, in the one row and the one column that there are.
+            let end = file.len() - SET_BYTES * rights as usize;
+            for cell in 0..=Set::MAX {
+                let within = cell < 1 << rights;
+                file[end - SET_BYTES..end].copy_from_slice(&cell.to_le_bytes());
+                reader.expect(group, &file, if within { 0 } else { 7 });
+            }
+        }
+    });
+    report.group("44: a byte of any value in every carry", 38_000, |group| {
+        for rights in 1..=RIGHTS {
+            let mut file = Draft::empty(rights).file();
+            let start = file.len() - SET_BYTES * rights as usize;
+            for place in start..file.len() {
+                let high = (place - start) % SET_BYTES == 1;
+                for value in 0..=255 {
+                    file[place] = value;
+                    let carried = if high {
+                        Set::from(value) << 8
+                    } else {
+                        value.into()
+                    };
+                    let within = carried < 1 << rights;
+                    reader.expect(group, &file, if within { 0 } else { 44 });
+                }
+                file[place] = 0;
+            }
+        }
+    });
+    report.group("5: every length of the carries", 900, |group| {
+        for rights in 1..=RIGHTS {
+            let whole = SET_BYTES * rights as usize;
+            for length in (0..=40).chain([255, 256, 256 + whole, 1_900]) {
+                let mut sections = Draft::empty(rights).sections();
+                sections[2].resize(length, 0);
+                let known = if length == whole { 0 } else { 5 };
+                reader.expect(group, &joined(rights, &sections), known);
+                // The length tells, and not what would stand there.
+                sections[2].fill(255);
+                let known = if length == whole { 44 } else { 5 };
+                reader.expect(group, &joined(rights, &sections), known);
+            }
+        }
+    });
+    report.group("5: lengths of the cells", 250, |group| {
+        for rights in 1..=RIGHTS {
+            let about = [CELLS, SET_BYTES * CELLS].map(|length| length - 2..=length + 2);
+            for length in about.into_iter().flatten().chain([0, 1, 32, 512, 3_900]) {
+                for filling in [0, 255] {
+                    let mut sections = Draft::empty(rights).sections();
+                    sections[1].resize(length, 0);
+                    sections[1].fill(filling);
+                    let known = match length == SET_BYTES * CELLS {
+                        true if filling == 0 => 0,
+                        true => 7,
+                        false => 5,
+                    };
+                    reader.expect(group, &joined(rights, &sections), known);
                 }
             }
         }
     });
-    report.group("5: every length of the carries", 300, |group| {
-        for rights in 1..=8 {
-            for length in (0..=32).chain([255, 256, 256 + rights as usize, 2_000]) {
-                let mut draft = Draft::empty(rights);
-                draft.carries.resize(length, 0);
-                let known = if length == rights as usize { 0 } else { 5 };
-                reader.expect(group, &draft.file(), known);
-                // The length tells, and not what would stand there.
-                draft.carries.fill(255);
-                let known = match known {
-                    0 if rights < 8 => 44,
-                    known => known,
-                };
-                reader.expect(group, &draft.file(), known);
-            }
-        }
-    });
-    report.group("44 behind 7, before the rules; 5 before 6", 40, |group| {
-        for rights in 1..=7 {
+    report.group("44 behind 7, before the rules; 5 before 6", 120, |group| {
+        for rights in 1..=RIGHTS {
             let mut draft = Draft::empty(rights);
             draft.carries[rights as usize - 1] = 1 << rights;
             reader.expect(group, &draft.file(), 44);
@@ -105,9 +156,11 @@ fn carries(report: &mut Report, reader: &mut Reader) {
             let mut with_kind = with_cell.clone();
             with_kind.kinds[31] = 3;
             reader.expect(group, &with_kind.file(), 6);
-            for length in [0, rights as usize - 1, rights as usize + 1] {
-                with_kind.carries.resize(length, 0);
-                reader.expect(group, &with_kind.file(), 5);
+            let whole = SET_BYTES * rights as usize;
+            for length in [0, rights as usize, whole - 1, whole + 1] {
+                let mut sections = with_kind.sections();
+                sections[2].resize(length, 0);
+                reader.expect(group, &joined(rights, &sections), 5);
             }
         }
     });
@@ -121,8 +174,8 @@ fn carries(report: &mut Report, reader: &mut Reader) {
         draft.rules = vec![rule(1, &[], &[[ENTER, 0, 0, 0]]); 33];
         reader.expect(group, &draft.file(), 3);
         // Kinds and cells alone, in order and whole.
-        let mut file = vec![1, 2, 10, 0, 32, 0, 42, 0, 0, 4];
-        file.resize(10 + 32 + 1024, 0);
+        let mut file = vec![1, 2, 10, 0, 32, 0, 42, 0, 0, 8];
+        file.resize(10 + 32 + 2048, 0);
         reader.expect(group, &file, 3);
         file[1] = 3;
         reader.expect(group, &file, 4);
@@ -149,11 +202,11 @@ fn main() {
             reader.expect(group, &file, 0);
         }
         let file = longest(random).file();
-        group.demand(file.len() == 2454, || format!("{} bytes", file.len()));
+        group.demand(file.len() == 3494, || format!("{} bytes", file.len()));
         reader.expect(group, &file, 0);
         // The shortest: no rules.
         let file = Draft::empty(1).file();
-        group.demand(file.len() == 1071, || format!("{} bytes", file.len()));
+        group.demand(file.len() == 2096, || format!("{} bytes", file.len()));
         reader.expect(group, &file, 0);
     });
 
@@ -170,7 +223,8 @@ fn main() {
                 let mut file = draft.file();
                 let sections = file::kinds_offset(&file);
                 // Header, pairs and kinds, then carries and all rules; the cells follow below.
-                let places = (0..sections + 32).chain(sections + 32 + 1024..file.len());
+                let cells = sections + 32..sections + 32 + SET_BYTES * CELLS;
+                let places = (0..cells.start).chain(cells.end..file.len());
                 for place in places {
                     let kept = file[place];
                     for value in 0..=255 {
@@ -186,14 +240,15 @@ fn main() {
     report.group("a few values at every place", 100_000, |group| {
         for round in 0..10 {
             let draft = match round {
-                0 => Draft::empty(8),
+                0 => Draft::empty(RIGHTS),
                 1 => longest(random),
                 _ => any(random),
             };
             let mut file = draft.file();
             for place in 0..file.len() {
                 let kept = file[place];
-                let top = 1u8.checked_shl(u32::from(draft.rights)).unwrap_or(255);
+                // The lowest bit outside, in its byte.
+                let top = 1 << (draft.rights % 8);
                 let values = [0, 1, 2, 3, kept ^ 1, kept ^ 128, top, 255, random.byte()];
                 for value in values {
                     file[place] = value;
@@ -227,7 +282,7 @@ fn main() {
             let extra = match random.below(4) {
                 0 => 1,
                 1 => random.between(1, 8),
-                2 => random.between(1, 1500),
+                2 => random.between(1, 600),
                 _ => 4096 - file.len(),
             };
             let tail = random.bytes(extra);
@@ -261,15 +316,12 @@ fn main() {
                 reader.expect(group, &file, within(4));
                 // A section as long as the file needs: kinds, cells, carries, a rule.
                 let missing = length - draft.file().len();
-                let mut padded = draft.clone();
-                padded.kinds.resize(32 + missing, 0);
-                reader.expect(group, &padded.file(), within(5));
-                let mut padded = draft.clone();
-                padded.cells.resize(1024 + missing, 0);
-                reader.expect(group, &padded.file(), within(5));
-                let mut padded = draft.clone();
-                padded.carries.resize(draft.rights as usize + missing, 0);
-                reader.expect(group, &padded.file(), within(5));
+                for section in 0..3 {
+                    let mut padded = draft.sections();
+                    let whole = padded[section].len() + missing;
+                    padded[section].resize(whole, 0);
+                    reader.expect(group, &joined(draft.rights, &padded), within(5));
+                }
                 let number = random.below(draft.rules.len());
                 let mut padded = draft.clone();
                 let whole = padded.rules[number].len() + missing;
@@ -299,9 +351,8 @@ fn main() {
         while group.inputs < 60_000 {
             let draft = any(random);
             let fault = Fault::any(random, draft.rules.len());
-            if let Some(file) = plant(random, &draft, &[fault]) {
-                reader.expect(group, &file, fault.refusal());
-            }
+            let file = plant(random, &draft, &[fault]);
+            reader.expect(group, &file, fault.refusal());
         }
     });
 
@@ -313,10 +364,9 @@ fn main() {
                 let draft = any(random);
                 let rules = draft.rules.len();
                 let faults = [Fault::any(random, rules), Fault::any(random, rules)];
-                if let Some(file) = plant(random, &draft, &faults) {
-                    let first = faults[0].min(faults[1]);
-                    reader.expect(group, &file, first.refusal());
-                }
+                let file = plant(random, &draft, &faults);
+                let first = faults[0].min(faults[1]);
+                reader.expect(group, &file, first.refusal());
             }
         },
     );
@@ -340,10 +390,9 @@ fn main() {
                 Fault::Rule(one, random.pick(&kinds)),
                 Fault::Rule(other, random.pick(&kinds)),
             ];
-            if let Some(file) = plant(random, &draft, &faults) {
-                let first = faults[0].min(faults[1]);
-                reader.expect(group, &file, first.refusal());
-            }
+            let file = plant(random, &draft, &faults);
+            let first = faults[0].min(faults[1]);
+            reader.expect(group, &file, first.refusal());
         }
     });
 
@@ -356,7 +405,7 @@ fn main() {
             };
             let mut file = random.bytes(length);
             if round % 2 == 1 && length >= 2 {
-                file[0] = random.between(1, 8) as u8;
+                file[0] = random.between(1, usize::from(RIGHTS)) as u8;
                 file[1] = random.between(3, 35) as u8;
             }
             reader.compare(group, &file);
@@ -368,7 +417,7 @@ fn main() {
                 *kind = random.below(4) as u8 * random.below(2) as u8;
             }
             for carried in &mut draft.carries {
-                *carried = random.byte() >> random.between(0, 9).min(7);
+                *carried = random.word() as Set >> random.between(0, 15);
             }
             for section in &mut draft.rules {
                 let length = random.between(0, 40);
@@ -415,6 +464,11 @@ fn main() {
         reader.expect(group, &base(rule(2, &[[1, 1, 2]], &[[1, 0, 0, 0]])), 9);
     });
 
+    report.group("twelve rights: files by hand", 2_900, |group| {
+        for case in twelve::checked() {
+            reader.expect(group, &case.file, case.refusal);
+        }
+    });
     carries(&mut report, &mut reader);
     report.group("each answer was seen", 11, |group| {
         let answers: Vec<u8> = (0..=9).chain([44]).collect();

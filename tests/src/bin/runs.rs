@@ -5,15 +5,15 @@ mod boundary_replay;
 #[path = "../boundary/run.rs"]
 mod boundary_run;
 
-use reference::carried;
+use reference::carried::{self, Played};
 use reference::damage::{plant, Fault};
-use reference::file::{self, Contents, Rule};
+use reference::file::{self, Contents, Rule, RIGHTS};
 use reference::generate::*;
 use reference::machine::{numbers, run, run_file, write_matrix};
 use reference::random::Random;
 use reference::replay::{replay, LEAK};
 use reference::report::{hex, Arguments, Counts, Group, Report};
-use reference::second;
+use reference::{second, twelve};
 
 /// File, trace and right to the answer and the step.
 type Replay = fn(&[u8], &[u8], u8) -> (u8, u64);
@@ -125,10 +125,25 @@ impl Library {
         });
         wanted
     }
+
+    /// The answer and the file left, as they are written down.
+    fn by_hand(&mut self, group: &mut Group, cases: Vec<Played>) {
+        for case in cases {
+            let mut file = case.draft.file();
+            let trace = case.trace.concat();
+            let answer = self.compare_replay(group, &file, &trace, case.right);
+            for &[rule, actuals @ ..] in &case.trace {
+                self.compare_run(group, &mut file, rule, actuals);
+            }
+            group.demand(answer == case.answer && file == case.file_after(), || {
+                format!("{}: {answer:?}, left {}", case.what, hex(&file))
+            });
+        }
+    }
 }
 
 /// The actuals with other bytes in the rule's spare blanks.
-fn renumbered(random: &mut Random, rule: &Rule, mut actuals: [u8; 4]) -> [u8; 4] {
+fn other_jobs(random: &mut Random, rule: &Rule, mut actuals: [u8; 4]) -> [u8; 4] {
     for &blank in &rule.spare {
         actuals[blank] = job_number(random);
     }
@@ -137,13 +152,10 @@ fn renumbered(random: &mut Random, rule: &Rule, mut actuals: [u8; 4]) -> [u8; 4]
 
 /// A file with a fault that the reader refuses.
 fn wrong_file(random: &mut Random, draft: &Draft) -> Vec<u8> {
-    loop {
-        let fault = Fault::any(random, draft.rules.len());
-        if let Some(file) = plant(random, draft, &[fault]) {
-            assert!(file::check(&file) != 0);
-            return file;
-        }
-    }
+    let fault = Fault::any(random, draft.rules.len());
+    let file = plant(random, draft, &[fault]);
+    assert!(file::check(&file) != 0);
+    file
 }
 
 /// Lets the file's matrix come to where a run of its rules leads.
@@ -352,7 +364,7 @@ fn main() {
                         continue;
                     }
                     let (mut one, mut other) = (file.clone(), file.clone());
-                    let others = renumbered(random, of, actuals);
+                    let others = other_jobs(random, of, actuals);
                     let answers = [
                         (library.run)(&mut one, rule, actuals),
                         (library.run)(&mut other, rule, others),
@@ -406,22 +418,16 @@ fn main() {
     });
 
     report.group("rights that carry: runs by hand", 24, |group| {
-        for case in carried::played() {
-            let mut file = case.draft.file();
-            let trace = case.trace.concat();
-            let answer = library.compare_replay(group, &file, &trace, case.right);
-            for &[rule, actuals @ ..] in &case.trace {
-                library.compare_run(group, &mut file, rule, actuals);
-            }
-            group.demand(answer == case.answer && file == case.file_after(), || {
-                format!("{}: {answer:?}, left {}", case.what, hex(&file))
-            });
-        }
+        library.by_hand(group, carried::played());
+    });
+
+    report.group("twelve rights: runs by hand", 180, |group| {
+        library.by_hand(group, twelve::played());
     });
 
     report.group("44 before all else, in replay with step 0", 300, |group| {
         for mut file in carried::wrong() {
-            for (trace, right) in [(&[][..], 0), (&[0, 0, 255, 255, 255], 0), (&[1; 3], 9)] {
+            for (trace, right) in [(&[][..], 0), (&[0, 0, 255, 255, 255], 0), (&[1; 3], 13)] {
                 let answer = library.compare_replay(group, &file, trace, right);
                 group.demand(answer == (44, 0), || format!("{answer:?}"));
             }
@@ -516,7 +522,7 @@ fn main() {
             for step in steps.chunks_exact_mut(5) {
                 let rule = &contents.rules[step[0] as usize];
                 let actuals = [step[1], step[2], step[3], step[4]];
-                step[1..].copy_from_slice(&renumbered(random, rule, actuals));
+                step[1..].copy_from_slice(&other_jobs(random, rule, actuals));
             }
             let other = (library.replay)(&file, &steps, right);
             group.demand(answer == other, || {
@@ -581,7 +587,7 @@ fn main() {
             let right = random.below(contents.rights as usize) as u8;
             let answer = library.compare_replay(group, &file, &[], right);
             group.demand(answer == (0, 0), || format!("empty trace gives {answer:?}"));
-            for past in [contents.rights, 8, 31, 255] {
+            for past in [contents.rights, 8, RIGHTS, 31, 255] {
                 if past >= contents.rights {
                     let answer = library.compare_replay(group, &file, &steps, past);
                     group.demand(answer == (21, 0), || format!("right {past}: {answer:?}"));
@@ -616,7 +622,7 @@ fn main() {
             if random.percent(30) {
                 steps.push(0);
             }
-            let right = random.below(10) as u8;
+            let right = random.below(16) as u8;
             library.compare_replay(group, &file, &steps, right);
         }
     });

@@ -1,6 +1,7 @@
 //! Rule runs and replays.
 
 use super::{subjects, with};
+use crate::file::Set;
 use crate::generate::{rule, Draft, DELETE, ENTER};
 use crate::replay::LEAK;
 
@@ -13,14 +14,19 @@ pub struct Played {
     pub trace: Vec<[u8; 5]>,
     pub right: u8,
     pub answer: (u8, u64),
-    /// The cells that are otherwise after all rule runs: subject, name, rights.
-    pub cells: Vec<(usize, usize, u8)>,
+    /// The names that are otherwise after all rule runs, and their kinds.
+    pub kinds: Vec<(usize, u8)>,
+    /// The cells that are otherwise then: subject, name, rights.
+    pub cells: Vec<(usize, usize, Set)>,
 }
 
 impl Played {
     /// The file after all rule runs of the trace, refused ones included.
     pub fn file_after(&self) -> Vec<u8> {
         let mut draft = self.draft.clone();
+        for &(name, kind) in &self.kinds {
+            draft.kinds[name] = kind;
+        }
         for &(s, o, rights) in &self.cells {
             draft.cells[32 * s + o] = rights;
         }
@@ -39,12 +45,13 @@ pub fn played() -> Vec<Played> {
     let enter = |tested: &[[u8; 3]], right: u8| rule(1, tested, &[[ENTER, right, 0, 0]]);
     let delete = |tested: &[[u8; 3]], right: u8| rule(1, tested, &[[DELETE, right, 0, 0]]);
     let run = |number: u8| [number, 0, X, X, X];
-    let play = |what, draft: &Draft, trace: &[[u8; 5]], right, answer, after: Option<u8>| Played {
+    let play = |what, draft: &Draft, trace: &[[u8; 5]], right, answer, after: Option<Set>| Played {
         what,
         draft: draft.clone(),
         trace: trace.to_vec(),
         right,
         answer,
+        kinds: Vec::new(),
         cells: after.map(|rights| (0, 0, rights)).into_iter().collect(),
     };
     let if_0 = [[0, 0, 0]];

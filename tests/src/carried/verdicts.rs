@@ -1,6 +1,7 @@
 //! Verdicts, with their steps.
 
 use super::{subjects, with};
+use crate::file::RIGHTS;
 use crate::generate::{rule, Draft, CREATE_SUBJECT, DELETE, ENTER};
 use crate::judge::{SAFE, UNSAFE};
 
@@ -62,8 +63,13 @@ fn carrying() -> Vec<Verdict> {
     let shades = shades();
     let done = [[0, 0, 0, 2, X]];
     let back = [[0, 0, 1, X, X]];
-    let chain: Vec<(u8, u8)> = (0..7).map(|right| (right, right + 1)).collect();
-    let falling: Vec<(u8, u8)> = [(0, 6), (6, 5), (5, 4), (4, 3), (3, 2), (2, 1), (1, 7)].to_vec();
+    let last = RIGHTS - 1;
+    let chain: Vec<(u8, u8)> = (0..last).map(|right| (right, right + 1)).collect();
+    // Down through all but the last, and then to it.
+    let downwards = (1..last - 1).rev().map(|right| (right + 1, right));
+    let mut falling = vec![(0, last - 1)];
+    falling.extend(downwards);
+    falling.push((1, last));
     let mut all = vec![
         verdict("nothing carries", &shades, PRINT, SAFE, &[]),
         verdict(
@@ -102,15 +108,15 @@ fn carrying() -> Vec<Verdict> {
             &[],
         ),
         verdict(
-            "a chain of all eight",
-            &with(&tests(8, 7), &chain),
+            "a chain of all rights",
+            &with(&tests(RIGHTS, last), &chain),
             0,
             UNSAFE,
             &back,
         ),
         verdict(
-            "a chain of all eight, downwards",
-            &with(&tests(8, 7), &falling),
+            "a chain of all rights, downwards",
+            &with(&tests(RIGHTS, last), &falling),
             0,
             UNSAFE,
             &back,
@@ -128,7 +134,7 @@ fn carrying() -> Vec<Verdict> {
         for left_out in 0..links.len() {
             let mut links = links.clone();
             links.remove(left_out);
-            let draft = with(&tests(8, 7), &links);
+            let draft = with(&tests(RIGHTS, last), &links);
             all.push(verdict("a link is missing", &draft, 0, SAFE, &[]));
         }
     }

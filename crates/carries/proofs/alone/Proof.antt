@@ -1,7 +1,8 @@
 use Prim.Native.Nat.{_≤_, _-_}
+use Rattle.protection.specs.Limits.{rights}
 use lib.Dec.{eqb}
 use Rattle.rights.specs.Rights.{number}
-use Rattle.carries.proofs.Sets.{Filling, filling-start, filling-more}
+use Rattle.cases.proofs.Filling.{Filling, filling-start, filling-more}
 use Rattle.carries.proofs.Closing.{alone-is, alone-end}
 use borrow.Author.Needs.{needs}
 use native.Mathlib.Omega.{arith}
@@ -9,10 +10,10 @@ use Rattle.carries.proofs.alone.Statement.{statement}
 use Rattle.carries.proofs.alone.Tie as tie
 
 abbrev Inv-loop : tie.InvT-loop
-Inv-loop all₀ i₀ all i = (i ≤ 8) × Filling (λ k. number (eqb k) 8) all₀ all i
+Inv-loop all₀ i₀ all i = (i ≤ rights) × Filling rights (λ k. number (eqb k) rights) all₀ all i
 
 abbrev μ-loop : tie.MeasureT-loop
-μ-loop all₀ i₀ all i = 8 - i
+μ-loop all₀ i₀ all i = rights - i
 
 loop-holds : tie.Need-loop-holds Inv-loop μ-loop
 loop-holds c = (omega arith, search filling-start)
@@ -22,6 +23,9 @@ with-right-requires c κs = search needs
 
 cast-all : tie.Need-cast-all Inv-loop μ-loop
 cast-all c = search needs
+
+mul-all : tie.Need-mul-all Inv-loop μ-loop
+mul-all c = omega arith
 
 array-write-all : tie.Need-array-write-all Inv-loop μ-loop
 array-write-all c = search needs
@@ -41,14 +45,4 @@ returns c = search alone-end
 pub alone-spec : {M : Type 1} → statement M
 alone-spec =
     tie.close
-    (tie.spec
-    Inv-loop
-    μ-loop
-    loop-holds
-    with-right-requires
-    cast-all
-    array-write-all
-    add-i
-    loop-less
-    loop-again
-    returns)
+    (tie.spec Inv-loop μ-loop loop-holds with-right-requires cast-all mul-all array-write-all add-i loop-less loop-again returns)

@@ -12,6 +12,9 @@ Inv-loop g i ends links set₀ j₀ set j = (j ≤ g) × Gathering i links ends 
 abbrev μ-loop : tie.MeasureT-loop
 μ-loop g i ends links set₀ j₀ set j = g - j
 
+mul-links : tie.Need-mul-links Inv-loop μ-loop
+mul-links c = omega arith
+
 array-read-links : tie.Need-array-read-links Inv-loop μ-loop
 array-read-links c = search needs
 
@@ -27,6 +30,9 @@ holds-requires c κs = search needs
 cast-more : tie.Need-cast-more Inv-loop μ-loop
 cast-more c = search needs
 
+mul-more : tie.Need-mul-more Inv-loop μ-loop
+mul-more c = omega arith
+
 array-read-more : tie.Need-array-read-more Inv-loop μ-loop
 array-read-more c = search needs
 
@@ -38,7 +44,7 @@ loop-less c = omega arith
 
 loop-again : tie.Need-loop-again Inv-loop μ-loop
 loop-again c =
-    (omega arith, ⊎-elim (λ w. search gathering-yes) (λ w. search gathering-no) (c .if1 .came))
+    (omega arith, ⊎-elim (λ w. gathering-yes _ _ _ _ _ _ (c .before .before .before .loop .inv .1) (c .before .holds .ensures) (search needs) _ (w .1)) (λ w. search gathering-no) (c .if1 .came))
 
 returns : tie.Need-returns Inv-loop μ-loop
 returns c = search gathering-end
@@ -46,16 +52,4 @@ returns c = search gathering-end
 pub further-spec : {M : Type 1} → statement M
 further-spec =
     tie.close
-    (tie.spec
-    Inv-loop
-    μ-loop
-    array-read-links
-    with-right-requires
-    loop-holds
-    holds-requires
-    cast-more
-    array-read-more
-    add-j
-    loop-less
-    loop-again
-    returns)
+    (tie.spec Inv-loop μ-loop mul-links array-read-links with-right-requires loop-holds holds-requires cast-more mul-more array-read-more add-j loop-less loop-again returns)

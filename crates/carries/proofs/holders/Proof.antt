@@ -1,3 +1,4 @@
+use Rattle.protection.specs.Limits.{rights}
 use Prim.Native.Nat.{_≤_, _-_}
 use mathlib.Core.Path.{_∙_}
 use mathlib.Core.Logic.{⊎-elim}
@@ -8,16 +9,19 @@ use Rattle.carries.proofs.holders.Statement.{statement}
 use Rattle.carries.proofs.holders.Tie as tie
 
 abbrev Inv-loop : tie.InvT-loop
-Inv-loop q sets set₀ i₀ set i = (i ≤ 8) × Holding sets q set i
+Inv-loop q sets set₀ i₀ set i = (i ≤ rights) × Holding sets q set i
 
 abbrev μ-loop : tie.MeasureT-loop
-μ-loop q sets set₀ i₀ set i = 8 - i
+μ-loop q sets set₀ i₀ set i = rights - i
 
 loop-holds : tie.Need-loop-holds Inv-loop μ-loop
 loop-holds c = (omega arith, search holding-start)
 
 cast-holds : tie.Need-cast-holds Inv-loop μ-loop
 cast-holds c = search needs
+
+mul-holds : tie.Need-mul-holds Inv-loop μ-loop
+mul-holds c = omega arith
 
 array-read-holds : tie.Need-array-read-holds Inv-loop μ-loop
 array-read-holds c = search needs
@@ -44,15 +48,4 @@ returns c = holding-end _ _ _ _ (omega arith) (c .before .loop .inv .1)
 pub holders-spec : {M : Type 1} → statement M
 holders-spec =
     tie.close
-    (tie.spec
-    Inv-loop
-    μ-loop
-    loop-holds
-    cast-holds
-    array-read-holds
-    holds-requires
-    with-right-requires
-    add-i
-    loop-less
-    loop-again
-    returns)
+    (tie.spec Inv-loop μ-loop loop-holds cast-holds mul-holds array-read-holds holds-requires with-right-requires add-i loop-less loop-again returns)

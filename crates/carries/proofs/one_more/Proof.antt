@@ -21,6 +21,9 @@ further-requires c κs = search needs
 cast-next : tie.Need-cast-next Inv-loop μ-loop
 cast-next c = search needs
 
+mul-next : tie.Need-mul-next Inv-loop μ-loop
+mul-next c = omega arith
+
 array-write-next : tie.Need-array-write-next Inv-loop μ-loop
 array-write-next c = search needs
 
@@ -39,14 +42,4 @@ returns c = extending-end _ _ _ _ _ (omega arith) (c .before .loop .inv .1)
 pub one-more-spec : {M : Type 1} → statement M
 one-more-spec =
     tie.close
-    (tie.spec
-    Inv-loop
-    μ-loop
-    loop-holds
-    further-requires
-    cast-next
-    array-write-next
-    add-i
-    loop-less
-    loop-again
-    returns)
+    (tie.spec Inv-loop μ-loop loop-holds further-requires cast-next mul-next array-write-next add-i loop-less loop-again returns)

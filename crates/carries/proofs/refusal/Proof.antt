@@ -22,6 +22,9 @@ loop-holds c = (omega arith, rw sub-zero)
 cast-none-from : tie.Need-cast-none-from Inv-loop μ-loop
 cast-none-from c = search needs
 
+mul-none-from : tie.Need-mul-none-from Inv-loop μ-loop
+mul-none-from c = omega arith
+
 array-read-none-from : tie.Need-array-read-none-from Inv-loop μ-loop
 array-read-none-from c = search needs
 
@@ -46,15 +49,4 @@ returns-2 c = search (not-refused, all-end)
 pub refusal-spec : {M : Type 1} → statement M
 refusal-spec =
     tie.close
-    (tie.spec
-    Inv-loop
-    μ-loop
-    loop-holds
-    cast-none-from
-    array-read-none-from
-    none-from-requires
-    returns
-    add-right
-    loop-less
-    loop-again
-    returns-2)
+    (tie.spec Inv-loop μ-loop loop-holds cast-none-from mul-none-from array-read-none-from none-from-requires returns add-right loop-less loop-again returns-2)

@@ -30,6 +30,9 @@ loop-holds : tie.Need-loop-holds Inv-loop μ-loop
 loop-holds c = search cells-start
 
 -- src/lib.rt:266:26
+mul-holds : tie.Need-mul-holds Inv-loop μ-loop
+mul-holds c = omega arith
+
 element-copy-out-holds : tie.Need-element-copy-out-holds Inv-loop μ-loop
 element-copy-out-holds c = search needs
 
@@ -72,18 +75,4 @@ returns-2 c = search cells-end
 pub first-pair-spec : {M : Type 1} → statement M
 first-pair-spec =
     tie.close
-    (tie.spec
-    Inv-loop
-    μ-loop
-    lowest-free-requires
-    loop-holds
-    element-copy-out-holds
-    holds-requires
-    pair-at-requires
-    complete-requires
-    returns
-    add-cell
-    loop-less
-    loop-again
-    no-pair-requires
-    returns-2)
+    (tie.spec Inv-loop μ-loop lowest-free-requires loop-holds mul-holds element-copy-out-holds holds-requires pair-at-requires complete-requires returns add-cell loop-less loop-again no-pair-requires returns-2)

@@ -1,3 +1,4 @@
+use native.Mathlib.Omega.{arith}
 use Rattle.closing.proofs.ClosingCalls.{masks-left}
 use borrow.Author.Needs.{needs}
 use Rattle.closing.proofs.masks_without.Statement.{statement}
@@ -12,6 +13,9 @@ mul-without-right c = search needs
 
 add-without-right : tie.Need-add-without-right
 add-without-right c = search needs
+
+mul-without-right-2 : tie.Need-mul-without-right-2
+mul-without-right-2 c = omega arith
 
 element-copy-out-without-right : tie.Need-element-copy-out-without-right
 element-copy-out-without-right c = search needs
@@ -28,10 +32,4 @@ returns c = search masks-left
 pub masks-without-spec : {M : Type 1} → statement M
 masks-without-spec =
     tie.close
-    (tie.spec
-    mul-without-right
-    add-without-right
-    element-copy-out-without-right
-    without-right-requires
-    with-cell-requires
-    returns)
+    (tie.spec mul-without-right add-without-right mul-without-right-2 element-copy-out-without-right without-right-requires with-cell-requires returns)

@@ -25,14 +25,20 @@ mul-cells c = omega arith
 add-cells : tie.Need-add-cells Inv-loop μ-loop
 add-cells c = omega arith
 
-element-write-cells : tie.Need-element-write-cells Inv-loop μ-loop
-element-write-cells c = omega arith
-
 mul-cells-2 : tie.Need-mul-cells-2 Inv-loop μ-loop
 mul-cells-2 c = omega arith
 
+element-write-cells : tie.Need-element-write-cells Inv-loop μ-loop
+element-write-cells c = omega arith
+
+mul-cells-3 : tie.Need-mul-cells-3 Inv-loop μ-loop
+mul-cells-3 c = omega arith
+
 add-cells-2 : tie.Need-add-cells-2 Inv-loop μ-loop
 add-cells-2 c = omega arith
+
+mul-cells-4 : tie.Need-mul-cells-4 Inv-loop μ-loop
+mul-cells-4 c = omega arith
 
 element-write-cells-2 : tie.Need-element-write-cells-2 Inv-loop μ-loop
 element-write-cells-2 c = omega arith
@@ -55,18 +61,4 @@ returns c = search renewed-is
 pub renew-spec : {M : Type 1} → statement M
 renew-spec =
     tie.close
-    (tie.spec
-    Inv-loop
-    μ-loop
-    loop-holds
-    mul-cells
-    add-cells
-    element-write-cells
-    mul-cells-2
-    add-cells-2
-    element-write-cells-2
-    add-j
-    loop-less
-    loop-again
-    element-write-kinds
-    returns)
+    (tie.spec Inv-loop μ-loop loop-holds mul-cells add-cells mul-cells-2 element-write-cells mul-cells-3 add-cells-2 mul-cells-4 element-write-cells-2 add-j loop-less loop-again element-write-kinds returns)

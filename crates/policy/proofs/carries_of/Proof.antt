@@ -1,4 +1,5 @@
-use Rattle.policy.proofs.Policies.{carries-copied}
+use native.Mathlib.Omega.{arith}
+use Rattle.policy.proofs.Policies.{carries-read}
 use borrow.Author.Needs.{needs}
 use Rattle.policy.proofs.carries_of.Statement.{statement}
 use Rattle.policy.proofs.carries_of.Tie as tie
@@ -6,36 +7,31 @@ use Rattle.policy.proofs.carries_of.Tie as tie
 word-at-requires : tie.Need-word-at-requires
 word-at-requires c κs = search needs
 
+mul-end : tie.Need-mul-end
+mul-end c = omega arith
+
 add-end : tie.Need-add-end
 add-end c = search needs
 
-sub-copy : tie.Need-sub-copy
-sub-copy c = search needs
+sub-read-sets : tie.Need-sub-read-sets
+sub-read-sets c = search needs
 
-part-copy-start : tie.Need-part-copy-start
-part-copy-start c = search needs
+part-read-sets-start : tie.Need-part-read-sets-start
+part-read-sets-start c = search needs
 
-part-copy-end : tie.Need-part-copy-end
-part-copy-end c = search needs
+part-read-sets-end : tie.Need-part-read-sets-end
+part-read-sets-end c = search needs
 
-slice-aggregate-copy : tie.Need-slice-aggregate-copy
-slice-aggregate-copy c = search needs
+slice-aggregate-read-sets : tie.Need-slice-aggregate-read-sets
+slice-aggregate-read-sets c = search needs
 
-copy-requires : tie.Need-copy-requires
-copy-requires c κs = search needs
+read-sets-requires : tie.Need-read-sets-requires
+read-sets-requires c κs = search needs
 
 returns : tie.Need-returns
-returns c = search carries-copied
+returns c = search carries-read
 
 pub carries-of-spec : {M : Type 1} → statement M
 carries-of-spec =
     tie.close
-    (tie.spec
-    word-at-requires
-    add-end
-    sub-copy
-    part-copy-start
-    part-copy-end
-    slice-aggregate-copy
-    copy-requires
-    returns)
+    (tie.spec word-at-requires mul-end add-end sub-read-sets part-read-sets-start part-read-sets-end slice-aggregate-read-sets read-sets-requires returns)

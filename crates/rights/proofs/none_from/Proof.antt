@@ -9,7 +9,7 @@ shl-result : tie.Need-shl-result
 shl-result c = search needs
 
 returns : tie.Need-returns
-returns c = let h : c .args .g < 16 = omega arith in simp (one-shl 16 _ h)
+returns c = let h : c .args .g < 32 = omega arith in simp (one-shl 32 _ h)
 
 pub none-from-spec : {M : Type 1} → statement M
 none-from-spec = tie.close (tie.spec shl-result returns)

@@ -1,3 +1,4 @@
+use Rattle.rights.specs.Rights.{width}
 use Rattle.rights.proofs.Bits.{one-shl}
 use borrow.Author.Needs.{needs}
 use Rattle.rights.proofs.without_right.Statement.{statement}
@@ -7,7 +8,7 @@ shl-bit : tie.Need-shl-bit
 shl-bit c = search needs
 
 returns : tie.Need-returns
-returns c = simp (one-shl 8 _ (c .pre))
+returns c = simp (one-shl width _ (c .pre))
 
 pub without-right-spec : {M : Type 1} → statement M
 without-right-spec = tie.close (tie.spec shl-bit returns)

@@ -12,8 +12,8 @@ word-at-requires-2 c κs = search needs
 store-at-requires : tie.Need-store-at-requires
 store-at-requires c κs = search needs
 
-store-at-requires-2 : tie.Need-store-at-requires-2
-store-at-requires-2 c κs = search needs
+store-sets-requires : tie.Need-store-sets-requires
+store-sets-requires c κs = search needs
 
 same-length : tie.Need-same-length
 same-length c = search needs
@@ -24,10 +24,4 @@ returns c = search store-is
 pub store-spec : {M : Type 1} → statement M
 store-spec =
     tie.close
-    (tie.spec
-    word-at-requires
-    word-at-requires-2
-    store-at-requires
-    store-at-requires-2
-    same-length
-    returns)
+    (tie.spec word-at-requires word-at-requires-2 store-at-requires store-sets-requires same-length returns)

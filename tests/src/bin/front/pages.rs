@@ -167,7 +167,7 @@ fn legend_held<'a>(
     let told = texts.iter().map(String::as_str);
     let told = told.filter(|text| reading.tells_carrying(text));
     let sets = content.house.carries.sets().iter();
-    let carries: Vec<u8> = sets.map(|set| set.0 as u8).collect();
+    let carries: Vec<u16> = sets.map(|set| set.0).collect();
     reading.legend(told, &carries)
 }
 

@@ -2,8 +2,8 @@
 //! same number on every file, and to the byte that was broken.
 
 use reference::damage::{plant, Fault};
-use reference::file::FIXED_PAIRS;
-use reference::generate::{any, lively, small, Draft};
+use reference::file::{CELLS, FIXED_PAIRS, RIGHTS, SET_BYTES};
+use reference::generate::{any, joined, lively, small, Draft};
 use reference::random::Random;
 use reference::report::{hex, Counts, Group, Report};
 use tugcaphi::house::place::{of_refusal, walk, Place};
@@ -76,8 +76,7 @@ fn with_rules(random: &mut Random) -> Draft {
     loop {
         let mut draft = a_draft(random);
         draft.kinds[4] = 2;
-        if draft.rights < 8 && draft.rules.iter().any(|rule| rule[1] > 0) && draft.rules.len() < 32
-        {
+        if draft.rules.iter().any(|rule| rule[1] > 0) && draft.rules.len() < 32 {
             return draft;
         }
     }
@@ -90,9 +89,7 @@ fn a_file(random: &mut Random, i: u64) -> Vec<u8> {
         let faults: Vec<Fault> = (0..random.between(1, 2))
             .map(|_| Fault::any(random, draft.rules.len()))
             .collect();
-        if let Some(file) = plant(random, &draft, &faults) {
-            return file;
-        }
+        return plant(random, &draft, &faults);
     }
     let mut file = draft.file();
     for _ in 0..random.below(3) {
@@ -122,28 +119,18 @@ fn broken(random: &mut Random, draft: &Draft, refusal: u8) -> (Vec<u8>, usize) {
             (file, length)
         }
         5 => {
-            let mut longer = draft.clone();
-            let rule = random.below(draft.rules.len());
-            let at = match random.below(3) {
-                0 => {
-                    longer.kinds.push(0);
-                    4
-                }
-                1 => {
-                    longer.carries.push(0);
-                    12
-                }
-                _ => {
-                    longer.rules[rule].push(0);
-                    4 + 4 * (FIXED_PAIRS + rule)
-                }
-            };
-            (longer.file(), at)
+            let mut sections = draft.sections();
+            let rule = FIXED_PAIRS + random.below(draft.rules.len());
+            let section = random.pick(&[0, 1, 2, rule]);
+            sections[section].push(0);
+            (joined(draft.rights, &sections), 4 + 4 * section)
         }
         _ => {
             let (at, byte) = wrong_byte(random, draft, refusal);
             file[at] = byte;
-            (file, at)
+            // A set that is wrong by its second byte is told at its first, which is even.
+            let high = matches!(refusal, 7 | 44) && at % SET_BYTES == 1;
+            (file, at - usize::from(high))
         }
     }
 }
@@ -154,7 +141,7 @@ fn wrong_byte(random: &mut Random, draft: &Draft, refusal: u8) -> (usize, u8) {
     let pairs = FIXED_PAIRS + draft.rules.len();
     let kinds = 2 + 4 * pairs;
     let cells = kinds + 32;
-    let carries = cells + 1024;
+    let carries = cells + SET_BYTES * CELLS;
     let start = |rule: usize| {
         let pair = 2 + 4 * (FIXED_PAIRS + rule);
         usize::from(file[pair]) + 256 * usize::from(file[pair + 1])
@@ -162,7 +149,7 @@ fn wrong_byte(random: &mut Random, draft: &Draft, refusal: u8) -> (usize, u8) {
     let rule = random.below(draft.rules.len());
     let tested = draft.rules.iter().position(|rule| rule[1] > 0).unwrap_or(0);
     match refusal {
-        2 => (0, random.pick(&[0, 9, 200])),
+        2 => (0, random.pick(&[0, RIGHTS + 1, 200])),
         3 => (1, random.pick(&[0, 2, 36, 255])),
         4 => {
             let at = 2 + 4 * random.below(pairs);
@@ -170,8 +157,16 @@ fn wrong_byte(random: &mut Random, draft: &Draft, refusal: u8) -> (usize, u8) {
         }
         6 => (kinds + random.below(32), random.between(3, 255) as u8),
         7 => match draft.kinds.iter().position(|&kind| kind == 0) {
-            Some(absent) if random.percent(50) => (cells + 32 * absent + 4, 1),
-            _ => (cells + 32 * 4 + 4, 1 << draft.rights),
+            Some(absent) if random.percent(50) => {
+                let byte = random.below(SET_BYTES);
+                (cells + SET_BYTES * (32 * absent + 4) + byte, 1)
+            }
+            _ => with_bit(
+                random,
+                draft.rights,
+                &file,
+                cells + SET_BYTES * (32 * 4 + 4),
+            ),
         },
         8 => {
             let (field, byte) = random.pick(&[(0, 0), (0, 5), (1, 5), (2, 0), (2, 7)]);
@@ -179,8 +174,7 @@ fn wrong_byte(random: &mut Random, draft: &Draft, refusal: u8) -> (usize, u8) {
         }
         44 => {
             let right = random.below(usize::from(draft.rights));
-            let beyond = random.between(usize::from(draft.rights), 7);
-            (carries + right, draft.carries[right] | 1 << beyond)
+            with_bit(random, draft.rights, &file, carries + SET_BYTES * right)
         }
         _ if random.percent(50) => (start(tested) + 3, draft.rights),
         _ => {
@@ -189,6 +183,13 @@ fn wrong_byte(random: &mut Random, draft: &Draft, refusal: u8) -> (usize, u8) {
             (start(rule) + 3 + 3 * conditions, kind)
         }
     }
+}
+
+/// The set that begins here with a bit from g on, up to bit 15: its byte, and where.
+fn with_bit(random: &mut Random, rights: u8, file: &[u8], set: usize) -> (usize, u8) {
+    let bit = random.between(usize::from(rights), 15);
+    let at = set + bit / 8;
+    (at, file[at] | 1 << (bit % 8))
 }
 
 /// Whether the place says what stands there: the byte, the two bytes of an

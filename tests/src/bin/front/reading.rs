@@ -3,7 +3,7 @@
 //! rights it could. And what rights carry, read back.
 
 use reference::carrying::carried;
-use reference::file::{self, Contents, Rule};
+use reference::file::{self, Contents, Rule, Set};
 use reference::machine::{run_file, AccessMatrix};
 use std::collections::BTreeMap;
 use tugcaphi::story::Jobs;
@@ -233,7 +233,7 @@ impl Reading {
     pub fn legend<'a>(
         &self,
         lines: impl IntoIterator<Item = &'a str>,
-        carries: &[u8],
+        carries: &[Set],
     ) -> Result<(), String> {
         let lines = lines.into_iter();
         let told: Result<Vec<_>, String> = lines.map(|line| self.carrying(line)).collect();
@@ -310,8 +310,10 @@ fn difference(before: &[u8], after: &[u8]) -> Vec<Effect> {
         }
     }
     for cell in 0..1024 {
-        let (old, new) = (before[kinds + 32 + cell], after[kinds + 32 + cell]);
-        for right in (0..8).filter(|right| (old ^ new) >> right & 1 == 1) {
+        let at = kinds + 32 + 2 * cell;
+        let set = |file: &[u8]| u16::from_le_bytes([file[at], file[at + 1]]);
+        let (old, new) = (set(before), set(after));
+        for right in (0..16).filter(|right| (old ^ new) >> right & 1 == 1) {
             let (subject, object) = (cell / 32, cell % 32);
             effects.push(match new >> right & 1 {
                 1 => Effect::Enter(right, subject, object),

@@ -33,7 +33,7 @@ pub fn run(report: &mut Report, seed: u64) {
             };
             let count = random.pick(&[1, 2, 7, 8, 9, 15, 16, 17, 25]);
             let right = |random: &mut Random| match random.below(8) {
-                0 => random.pick(&[draft.rights, 8, 255]),
+                0 => random.pick(&[draft.rights, file::RIGHTS, 255]),
                 _ => random.below(usize::from(draft.rights)) as u8,
             };
             let rights: Vec<u8> = (0..count).map(|_| right(random)).collect();

@@ -7,6 +7,7 @@
 use super::execute::Folder;
 use super::reading::{Effect, Line, Reading, Seen};
 use super::wording::Wording;
+use reference::desk::BUFFER;
 use reference::file;
 use reference::generate::{chain, large, likely_run, lively, small, Draft};
 use reference::machine::run_file;
@@ -201,7 +202,7 @@ fn verdict(
     if asked != right {
         return Err(format!("right {asked} in place of {right}"));
     }
-    let mut buffer = vec![0; 50_000];
+    let mut buffer = vec![0; BUFFER];
     let answer = match without {
         [] => library::judge(file, right as u8, &mut buffer),
         names => library::judge_part(file, right as u8, names, &mut buffer),
@@ -256,12 +257,10 @@ fn holding(
     file: &[u8],
     without: &[u8],
 ) -> Result<(), String> {
-    let part = part(file, without);
-    let cells = file::kinds_offset(file) + 32;
-    let count = part[cells..cells + 1024]
-        .iter()
-        .filter(|&&cell| cell >> right & 1 == 1)
-        .count();
+    let part =
+        file::read(&part(file, without)).map_err(|refusal| format!("a part of {refusal}"))?;
+    let cells = part.matrix.cells.iter();
+    let count = cells.filter(|&&cell| cell >> right & 1 == 1).count();
     let of = if without.is_empty() {
         ""
     } else {

@@ -144,7 +144,8 @@ impl Writer<'_> {
     fn carries(&mut self, draft: &Draft, wording: &Wording) {
         let mut statements = Vec::new();
         for (right, &set) in draft.carries.iter().enumerate() {
-            let mut carried: Vec<usize> = (0..8).filter(|one| set >> one & 1 == 1).collect();
+            let rights = 0..wording.rights.len();
+            let mut carried: Vec<usize> = rights.filter(|one| set >> one & 1 == 1).collect();
             self.random.shuffle(&mut carried);
             let mut lexemes = vec!["carries".to_string(), self.word(&wording.rights[right])];
             for (i, &one) in carried.iter().enumerate() {
@@ -237,8 +238,9 @@ impl Writer<'_> {
                 lexemes.push(",".to_string());
                 lexemes.extend(self.range(&wording.names, first, last));
                 lexemes.extend([")".to_string(), ":".to_string()]);
+                let rights = 0..wording.rights.len();
                 let mut rights: Vec<usize> =
-                    (0..8).filter(|r| cell(s, first) >> r & 1 == 1).collect();
+                    rights.filter(|r| cell(s, first) >> r & 1 == 1).collect();
                 self.random.shuffle(&mut rights);
                 for right in rights {
                     lexemes.push(self.word(&wording.rights[right]));

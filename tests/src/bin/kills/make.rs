@@ -25,7 +25,7 @@ pub fn kill_make(scene: &Scene, group: &mut Group, over: bool) {
     set();
     let answer = scene.call(words);
     let made = scene.read(FILE);
-    group.input(answer.status == Some(0) && made.len() == 1_086, || {
+    group.input(answer.status == Some(0) && made.len() == 2_112, || {
         format!("{answer:?}")
     });
     for number in 1.. {

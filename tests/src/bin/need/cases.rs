@@ -1,7 +1,7 @@
 //! Tables by hand, one for each sentence of request C-14.
 
 use reference::brute::{Reached, Runs};
-use reference::file;
+use reference::file::{self, RIGHTS};
 use reference::filled::{compare, Library, Question};
 use reference::generate::*;
 use reference::need::{cells, HELD, NEVER};
@@ -10,7 +10,7 @@ use reference::report::{hex, Group, Report};
 use reference::verdict::needed;
 
 pub fn run(report: &mut Report, library: Library, random: &mut Random) {
-    report.group("the sentences of the request", 24, |group| {
+    report.group("the sentences of the requests", 31, |group| {
         for case in all() {
             case.hold(group, library, random);
         }
@@ -74,7 +74,30 @@ fn all() -> Vec<Case> {
     all.extend(order());
     all.extend(creates());
     all.extend(carried());
+    all.extend(twelve());
     all
+}
+
+/// Twelve rights (request C-21): a cell that holds right 8 does not hold right 0, and
+/// both bytes of a cell come.
+fn twelve() -> Vec<Case> {
+    let mut draft = three(RIGHTS);
+    draft.put(0, 2, 8);
+    draft.rules = vec![
+        rule(2, &[[8, 0, 1]], &[[ENTER, 11, 0, 1]]),
+        rule(2, &[[11, 0, 1]], &[[ENTER, 2, 0, 1]]),
+        rule(2, &[[3, 0, 1]], &[[ENTER, 4, 0, 1]]),
+    ];
+    let [high, low] = [[0, 0, 2, X, X], [1, 0, 2, X, X]];
+    vec![
+        Case::new(&draft, &[8, 0, 2], HELD, &[]),
+        Case::new(&draft, &[0, 0, 2], NEVER, &[high, low]),
+        Case::new(&draft, &[11, 0, 2], HELD, &[high]),
+        Case::new(&draft, &[3, 0, 2], NEVER, &[high, low]),
+        Case::new(&draft, &[2, 0, 2, 11, 0, 2, 8, 0, 2], HELD, &[high, low]),
+        Case::new(&draft, &[11, 0, 2, 10, 0, 2], NEVER, &[high, low]),
+        Case::new(&draft, &[12, 0, 2], 41, &[]),
+    ]
 }
 
 /// Rights that carry others (request C-19): "a press's cells still look at the

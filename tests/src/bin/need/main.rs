@@ -112,14 +112,13 @@ impl Mix {
 /// holds all cells. Held: one does.
 fn brute(group: &mut Group, library: Library, random: &mut Random, counts: &mut Counts) {
     let (mut mix, mut unknown) = (Mix::default(), 0);
-    let (mut by_destroying, mut pools) = (0, [0; 4]);
+    let (mut by_destroying, mut pools, mut high) = (0, [0; 4], 0);
     while group.inputs < 12_000 {
         let draft = match random.percent(15) {
             true => remaking(random),
             false => small(random),
         };
-        let file = draft.file();
-        let contents = file::read(&file).unwrap();
+        let contents = file::read(&draft.file()).unwrap();
         let Some((further, reached)) = exhausted(&contents) else {
             unknown += 1;
             continue;
@@ -127,8 +126,19 @@ fn brute(group: &mut Group, library: Library, random: &mut Random, counts: &mut 
         pools[further] += 1;
         // A name that is made anew needs no further one.
         let freely = Reached::from(&contents, Runs::All, 0, LIMIT);
+        // The rights' numbers change nothing.
+        let (asked, numbers) = match random.percent(50) {
+            true => renumbered(random, &draft),
+            false => (draft.clone(), (0..draft.rights).collect()),
+        };
+        let file = asked.file();
         for cells in tiny_lists(random, &contents) {
-            let list = bytes(&cells);
+            let other = |cell: &Cell| Cell {
+                right: numbers[usize::from(cell.right)],
+                ..*cell
+            };
+            let list = bytes(&cells.iter().map(other).collect::<Vec<_>>());
+            high += u64::from(list.iter().step_by(3).any(|&right| right >= 8));
             let length = needed(&file) + random.below(7);
             let question = Question::new(&file, &list);
             let account = compare(group, library, random, question, length);
@@ -150,6 +160,9 @@ fn brute(group: &mut Group, library: Library, random: &mut Random, counts: &mut 
         "  tables with 1, 2, 3 further names {:?}, not exhausted {unknown}; lists held by destroying a name of the start alone {by_destroying}",
         &pools[1..]
     );
+    group.demand(high >= 1_500, || {
+        format!("only {high} with a right from 8 on")
+    });
     group.demand(pools[3] >= 2_000, || {
         format!("only {pools:?} with three names")
     });

@@ -1,6 +1,7 @@
 //! 41 by each of its reasons and on both sides of each bound, and the order of
 //! the refusals.
 
+use reference::desk::BUFFER;
 use reference::file;
 use reference::filled::{compare, Library, Question};
 use reference::generate::*;
@@ -50,11 +51,12 @@ fn bounds(group: &mut Group, library: Library, random: &mut Random) {
     let file = corners().file();
     let good = [0, 0, 1];
     // One cell, and the answer; in every place of lists of every length.
-    let cells: [([u8; 3], u8); 27] = [
+    let cells: [([u8; 3], u8); 28] = [
         ([0, 0, 1], HELD),
         ([2, 0, 1], NEVER),
         ([3, 0, 1], 41),
         ([8, 0, 1], 41),
+        ([12, 0, 1], 41),
         ([255, 0, 1], 41),
         ([0, 0, 0], HELD),
         ([0, 31, 0], HELD),
@@ -197,7 +199,7 @@ fn wrong_files(group: &mut Group, library: Library, random: &mut Random, counts:
         let (file, fault) = wrong_file(random);
         let list_length = random.pick(&[0, 0, 1, 3, 6, 24, 27]);
         let list = random.bytes(list_length);
-        let length = random.pick(&[0, 10, 200, 40_000]);
+        let length = random.pick(&[0, 10, 200, BUFFER]);
         let question = Question::new(&file, &list);
         let account = compare(group, library, random, question, length);
         counts.add(account.code);

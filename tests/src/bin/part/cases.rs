@@ -1,5 +1,6 @@
 //! Tables by hand, one or more for each sentence of request C-15.
 
+use reference::file::RIGHTS;
 use reference::generate::*;
 use reference::judge::{SAFE, UNSAFE};
 use reference::random::Random;
@@ -7,7 +8,7 @@ use reference::report::{hex, Group, Report};
 use reference::verdict::{compare, needed, part, Library, Question};
 
 pub fn run(report: &mut Report, library: Library, random: &mut Random) {
-    report.group("the sentences of the request", 35, |group| {
+    report.group("the sentences of the requests", 42, |group| {
         for case in all() {
             case.hold(group, library, random, needed(&case.file));
         }
@@ -66,7 +67,32 @@ fn all() -> Vec<Case> {
     all.extend(closing());
     all.extend(steps_of_the_part());
     all.extend(carried());
+    all.extend(twelve());
     all
+}
+
+/// Twelve rights (request C-21): whoever is left out goes with both bytes of the cells
+/// in row and column.
+fn twelve() -> Vec<Case> {
+    let mut draft = Draft::empty(RIGHTS);
+    draft.kinds[..3].copy_from_slice(&[2, 2, 2]);
+    for (s, o, right) in [(0, 1, 8), (0, 1, 0), (1, 2, 3), (2, 0, 11)] {
+        draft.put(s, o, right);
+    }
+    draft.rules = vec![
+        rule(2, &[[8, 0, 1]], &[[ENTER, 10, 1, 0]]),
+        rule(2, &[[11, 0, 1]], &[[ENTER, 10, 0, 1]]),
+    ];
+    let [first, second] = [[0, 0, 1, X, X], [1, 2, 0, X, X]];
+    vec![
+        Case::new(&draft, 10, &[], UNSAFE, &[first]),
+        Case::new(&draft, 10, &[1], UNSAFE, &[second]),
+        Case::new(&draft, 10, &[2], UNSAFE, &[first]),
+        Case::new(&draft, 10, &[0], SAFE, &[]),
+        Case::new(&draft, 2, &[], SAFE, &[first, second]),
+        Case::new(&draft, 11, &[1], SAFE, &[second]),
+        Case::new(&draft, 12, &[1], 21, &[]),
+    ]
 }
 
 /// Rights carry others in the part as in the whole (request C-19).

@@ -12,6 +12,7 @@ mod cases;
 mod refusals;
 
 use reference::brute::{exhausted, Found, Search};
+use reference::desk::BUFFER;
 use reference::file;
 use reference::generate::*;
 use reference::judge::{Account, SAFE, UNSAFE};
@@ -178,11 +179,12 @@ fn brute(
 ) {
     let mut mix = Mix::default();
     let mut searched = Searched::default();
+    let mut high = 0;
     while group.inputs < 12_000 {
         let mut draft = small(random);
         let list = left_out(random, &mut draft);
-        let file = draft.file();
-        let right = if random.percent(80) {
+        let mut file = draft.file();
+        let mut right = if random.percent(80) {
             0
         } else {
             draft.rights - 1
@@ -191,6 +193,12 @@ fn brute(
         let Some(found) = searched.add(random, exhausted(&start, right, LIMIT)) else {
             continue;
         };
+        // The rights' numbers change nothing.
+        if random.percent(50) {
+            let (other, numbers) = renumbered(random, &draft);
+            (file, right) = (other.file(), numbers[usize::from(right)]);
+            high += u64::from(right >= 8);
+        }
         let wanted = if found == Found::Leak { UNSAFE } else { SAFE };
         let question = Question::new(&file, right).without(&list);
         let (account, answer) = beside(group, library, judge, random, question, &mut mix);
@@ -201,6 +209,9 @@ fn brute(
     }
     mix.demand(group, [3_000, 1_000, 500, 500, 1_000, 1_000]);
     searched.demand(group);
+    group.demand(high >= 1_000, || {
+        format!("only {high} of a right from 8 on")
+    });
 }
 
 /// What the brute searches came by.
@@ -328,7 +339,7 @@ fn nobody(group: &mut Group, library: Library, judge: Judge, random: &mut Random
     let mut counts = Counts::default();
     while group.inputs < 6_000 {
         let (file, right, length) = match group.inputs % 4 {
-            0 => (wrong_file(random).0, random.below(10) as u8, 40_000),
+            0 => (wrong_file(random).0, random.below(16) as u8, BUFFER),
             1 => {
                 let mut draft = small(random);
                 let length = obstruct(random, &mut draft).0;
@@ -339,7 +350,7 @@ fn nobody(group: &mut Group, library: Library, judge: Judge, random: &mut Random
                     true => chain(random),
                     false => large(random),
                 };
-                (draft.file(), right, 40_000)
+                (draft.file(), right, BUFFER)
             }
             _ => {
                 let file = small(random).file();

@@ -1,7 +1,8 @@
 //! 42 by each of its reasons and on both sides of each bound, and the order of
 //! the refusals.
 
-use reference::file;
+use reference::desk::BUFFER;
+use reference::file::{self, RIGHTS};
 use reference::generate::*;
 use reference::judge::{SAFE, UNSAFE};
 use reference::obstacles::{obstruct, wrong_file};
@@ -132,7 +133,7 @@ fn order(group: &mut Group, library: Library, random: &mut Random, counts: &mut 
         let matrix = file::read(&file).unwrap().matrix;
         let mut list = any_names(random, &matrix);
         if random.percent(20) {
-            right = random.pick(&[draft.rights, 8, 31, 255]);
+            right = random.pick(&[draft.rights, RIGHTS, 31, 255]);
             planted.insert(0, 21);
         }
         if random.percent(60) {
@@ -168,7 +169,7 @@ fn wrong_files(group: &mut Group, library: Library, random: &mut Random, counts:
         let list_length = random.pick(&[0, 0, 1, 1, 2, 30, 40]);
         let list = random.bytes(list_length);
         let right = random.below(10) as u8;
-        let length = random.pick(&[0, 10, 200, 40_000]);
+        let length = random.pick(&[0, 10, 200, BUFFER]);
         let question = Question::new(&file, right).without(&list);
         let (account, _) = compare(group, library, random, question, length);
         counts.add(account.code);

@@ -2,7 +2,7 @@
 //! held or removed, `make` at the same lock, no room, links and what cannot be
 //! replaced. Argument: the seed.
 
-use reference::file::check;
+use reference::file::{check, RIGHTS};
 use reference::generate::{rule, Draft, CREATE_SUBJECT};
 use reference::random::Random;
 use reference::report::{Arguments, Group, Report};
@@ -200,7 +200,7 @@ fn make_waits(scene: &Scene, group: &mut Group) {
     let answer = waits(group, scene.command(&words), &|| {
         lock.unlock().expect("our lock")
     });
-    let made = answer.status == Some(0) && scene.read(FILE).len() == 1_071;
+    let made = answer.status == Some(0) && scene.read(FILE).len() == 2_096;
     let kept = scene.mode(FILE) == 0o600 && scene.names() == [FILE, "words"];
     group.input(made && kept, || format!("make, after waiting: {answer:?}"));
 }
@@ -231,8 +231,8 @@ fn held(scene: &Scene, group: &mut Group) {
 
 /// A house file whose length is a whole number of steps.
 fn house_of_steps() -> Vec<u8> {
-    let mut draft = Draft::empty(8);
-    for _ in 0..2 {
+    let mut draft = Draft::empty(RIGHTS);
+    while !draft.file().len().is_multiple_of(5) {
         draft.rules.push(rule(1, &[], &[[CREATE_SUBJECT, 0, 0, 0]]));
     }
     let file = draft.file();

@@ -1,6 +1,8 @@
 //! Sheets by hand, one or more for each sentence of request C-17.
 
 use super::compare::{compare, Library};
+use reference::desk::BUFFER;
+use reference::file::RIGHTS;
 use reference::generate::*;
 use reference::random::Random;
 use reference::report::{hex, Group, Report};
@@ -74,7 +76,40 @@ fn all() -> Vec<Case> {
     all.extend(bad_files());
     all.extend(counts());
     all.extend(carried());
+    all.extend(twelve());
     all
+}
+
+/// Twelve rights (request C-21), each asked for on a sheet: right 8 lets 11 in, and 0
+/// would let 4 in.
+fn twelve() -> Vec<Case> {
+    let mut draft = Draft::empty(RIGHTS);
+    draft.kinds[0] = 2;
+    draft.put(0, 0, 8);
+    draft.rules = vec![
+        rule(1, &[[8, 0, 0]], &[[ENTER, 11, 0, 0]]),
+        rule(1, &[[0, 0, 0]], &[[ENTER, 4, 0, 0]]),
+    ];
+    // 5 × (12 × 2 × 3 + 4) bytes are needed.
+    let length = 380;
+    let step = vec![0, 0, X, X, X];
+    vec![Case {
+        file: draft.file(),
+        entries: sheet(&[3, 11, 12, 4, 8]),
+        length: 5 * length,
+        code: 0,
+        answered: [
+            [3, 0, 1, 0],
+            [11, UNSAFE, 1, 0],
+            [12, 21, 0, 0],
+            [4, 0, 1, 0],
+            [8, 0, 1, 0],
+        ]
+        .concat(),
+        written: [0, 1, 3, 4]
+            .map(|number| (number * length, step.clone()))
+            .to_vec(),
+    }]
 }
 
 /// Rights that carry others (request C-19), whichever entry asks: 1 carries 0, and
@@ -174,7 +209,7 @@ fn entries_and_parts() -> Vec<Case> {
         answered(&[0, 1, 0, 1, 1, 0, 1], &[], 7 * NEEDED + 6),
         answered(&[1, 0, 1, 1, 0, 0, 1, 1], &[], 8 * NEEDED),
         answered(&[1, 1, 1, 1, 1, 1, 1, 1], &[], 8 * NEEDED + 7),
-        answered(&[1, 1, 1, 1, 1, 1, 1, 1], &[], 8 * 39_700),
+        answered(&[1, 1, 1, 1, 1, 1, 1, 1], &[], 8 * BUFFER),
         // Bytes that make no whole entry stay, and are none.
         answered(&[1], &[1], NEEDED),
         answered(&[1, 0], &[1, 8], 2 * NEEDED),
@@ -283,15 +318,17 @@ fn bad_files() -> Vec<Case> {
     let rights = [1, 2, 255];
     [
         (Vec::new(), 1),
-        (with(0, 9), 2),
+        (with(0, 13), 2),
         (with(1, 1), 3),
         (good[..100].to_vec(), 4),
-        (with(1_078, 2), 5),
+        (with(2_104, 2), 5),
         (with(18, 3), 6),
         (with(50, 4), 7),
-        (with(1_075, 4), 44),
-        (with(1_076, 5), 8),
-        (with(1_079, 2), 9),
+        (with(51, 1), 7),
+        (with(2_100, 4), 44),
+        (with(2_101, 128), 44),
+        (with(2_102, 5), 8),
+        (with(2_105, 2), 9),
     ]
     .into_iter()
     .flat_map(|(file, code)| {

@@ -10,6 +10,7 @@ mod compare;
 mod refusals;
 
 use compare::{compare, Library, Outcome};
+use reference::file::RIGHTS;
 use reference::generate::*;
 use reference::judge::{SAFE, UNSAFE};
 use reference::random::Random;
@@ -61,7 +62,7 @@ fn any_entries(random: &mut Random, rights: u8, count: usize) -> Vec<u8> {
     let same = random.below(usize::from(rights)) as u8;
     for entry in entries.chunks_exact_mut(ENTRY) {
         entry[0] = match random.below(10) {
-            0 => random.pick(&[rights, 8, 31, 128, 255]),
+            0 => random.pick(&[rights, RIGHTS, 31, 128, 255]),
             1..=3 => same,
             _ => random.below(usize::from(rights)) as u8,
         };

@@ -3,6 +3,8 @@
 
 use super::compare::{compare, Library};
 use super::{any_entries, with_rest};
+use reference::desk::BUFFER;
+use reference::file::RIGHTS;
 use reference::generate::*;
 use reference::judge::{SAFE, UNSAFE};
 use reference::obstacles::{obstruct, wrong_file};
@@ -62,7 +64,7 @@ fn first_of_all(group: &mut Group, library: Library, random: &mut Random) {
     let mut bad = 0;
     while group.inputs < 4_000 {
         let (file, length) = match random.percent(50) {
-            true => (wrong_file(random).0, random.pick(&[0, 200, 40_000])),
+            true => (wrong_file(random).0, random.pick(&[0, 200, BUFFER])),
             false => {
                 let mut draft = small(random);
                 let length = obstruct(random, &mut draft).0;
@@ -86,9 +88,9 @@ fn wrong_files(group: &mut Group, library: Library, random: &mut Random, counts:
     while group.inputs < 6_000 {
         let (file, fault) = wrong_file(random);
         let count = random.below(MOST_ENTRIES + 1);
-        let entries = any_entries(random, 8, count);
+        let entries = any_entries(random, RIGHTS, count);
         let entries = with_rest(random, entries);
-        let length = random.pick(&[0, 10, 200, 40_000]);
+        let length = random.pick(&[0, 10, 200, BUFFER]);
         let outcome = compare(group, library, random, &file, &entries, length);
         for answer in outcome.answers() {
             counts.add(answer.0);
@@ -141,7 +143,7 @@ fn any(group: &mut Group, library: Library, random: &mut Random) {
     while group.inputs < 3_000 {
         let file = match random.below(4) {
             0 => {
-                let length = random.pick(&[0, 1, 2, 9, 1_071, 5_000]);
+                let length = random.pick(&[0, 1, 2, 9, 2_096, 5_000]);
                 random.bytes(length)
             }
             _ => small(random).file(),

@@ -1,3 +1,4 @@
+use Rattle.protection.specs.Limits.{rights}
 use Rattle.closing.proofs.Lacking.{lacking-start, lacking-more, lacking-same}
 use Prim.Native.Nat.{_-_, _≤_}
 use mathlib.Core.Logic.{⊎-elim}
@@ -10,13 +11,16 @@ use Rattle.closing.proofs.asked.lacking_in.Reads as reads
 use Rattle.closing.proofs.asked.lacking_in.Lts as lts
 
 abbrev Inv-loop : tie.InvT-loop
-Inv-loop asks carriers k set mask₀ q₀ mask q = (q ≤ 8) × LackingIn asks carriers k set mask
+Inv-loop asks carriers k set mask₀ q₀ mask q = (q ≤ rights) × LackingIn asks carriers k set mask
 
 abbrev μ-loop : tie.MeasureT-loop
-μ-loop asks carriers k set mask₀ q₀ mask q = 8 - q
+μ-loop asks carriers k set mask₀ q₀ mask q = rights - q
 
 loop-holds : tie.Need-loop-holds Inv-loop μ-loop
 loop-holds c = (omega arith, search lacking-start)
+
+mul-if1 : tie.Need-mul-if1 Inv-loop μ-loop
+mul-if1 c = omega arith
 
 element-copy-out-if1 : tie.Need-element-copy-out-if1 Inv-loop μ-loop
 element-copy-out-if1 c = search needs
@@ -51,17 +55,4 @@ returns c = search needs
 pub lacking-in-spec : {M : Type 1} → statement M
 lacking-in-spec =
     tie.close
-    (tie.spec
-    Inv-loop
-    μ-loop
-    loop-holds
-    element-copy-out-if1
-    cast-mask
-    mul-mask
-    add-mask
-    mul-mask-2
-    element-copy-out-mask
-    add-q
-    loop-less
-    loop-again
-    returns)
+    (tie.spec Inv-loop μ-loop loop-holds mul-if1 element-copy-out-if1 cast-mask mul-mask add-mask mul-mask-2 element-copy-out-mask add-q loop-less loop-again returns)

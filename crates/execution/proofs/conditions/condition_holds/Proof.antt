@@ -1,3 +1,4 @@
+use native.Mathlib.Omega.{arith}
 use Rattle.execution.proofs.Asked.{condition-met, condition-lacks}
 use borrow.Author.Needs.{needs}
 use Rattle.execution.proofs.conditions.condition_holds.Statement.{statement}
@@ -42,11 +43,17 @@ mul-result c = search needs
 add-result : tie.Need-add-result
 add-result c = search needs
 
+mul-result-2 : tie.Need-mul-result-2
+mul-result-2 c = omega arith
+
 element-copy-out-result : tie.Need-element-copy-out-result
 element-copy-out-result c = search needs
 
 cast-result : tie.Need-cast-result
 cast-result c = search needs
+
+mul-result-3 : tie.Need-mul-result-3
+mul-result-3 c = omega arith
 
 array-read-result : tie.Need-array-read-result
 array-read-result c = search needs
@@ -60,22 +67,4 @@ returns-2 c = search condition-lacks
 pub condition-holds-spec : {M : Type 1} → statement M
 condition-holds-spec =
     tie.close
-    (tie.spec
-    mul-q
-    element-copy-out-q
-    mul-name-of
-    add-name-of
-    element-copy-out-name-of
-    name-of-requires
-    mul-name-of-2
-    add-name-of-2
-    element-copy-out-name-of-2
-    name-of-requires-2
-    has-cell-requires
-    mul-result
-    add-result
-    element-copy-out-result
-    cast-result
-    array-read-result
-    returns
-    returns-2)
+    (tie.spec mul-q element-copy-out-q mul-name-of add-name-of element-copy-out-name-of name-of-requires mul-name-of-2 add-name-of-2 element-copy-out-name-of-2 name-of-requires-2 has-cell-requires mul-result add-result mul-result-2 element-copy-out-result cast-result mul-result-3 array-read-result returns returns-2)
