@@ -1,6 +1,7 @@
 //! The benchmark's tables, by family. All are made from one seed.
 
 use crate::pruned;
+use crate::slow;
 use crate::table::{listing, Answer, Table};
 use reference::file::{self, RIGHTS};
 use reference::generate::{
@@ -19,7 +20,7 @@ pub struct Sample {
 }
 
 impl Sample {
-    fn new(family: &'static str, name: &str, (draft, right): (Draft, u8)) -> Sample {
+    pub fn new(family: &'static str, name: &str, (draft, right): (Draft, u8)) -> Sample {
         Sample {
             family,
             name: format!("{family}-{name}"),
@@ -180,9 +181,9 @@ fn wanted_with(
 /// links each name to the one below, the right before it marks the last name and the
 /// first.
 #[derive(Clone, Copy)]
-struct Walk {
-    rights: u8,
-    names: usize,
+pub struct Walk {
+    pub rights: u8,
+    pub names: usize,
 }
 
 impl Walk {
@@ -208,12 +209,12 @@ impl Walk {
 }
 
 /// Eight rights, and so many names.
-fn eight(names: usize) -> Walk {
+pub fn eight(names: usize) -> Walk {
     Walk { rights: 8, names }
 }
 
 /// As many rights as there can be, and so many names.
-fn twelve(names: usize) -> Walk {
+pub fn twelve(names: usize) -> Walk {
     Walk {
         rights: RIGHTS,
         names,
@@ -241,7 +242,7 @@ fn diagonal(walk: Walk, tokens: u8) -> (Draft, u8) {
 /// A token right walks through all cells, row by row and each row downwards,
 /// a round a step: `tokens` x `names` x `names` rounds. At the end of it all
 /// the linking right leaks, or nothing does.
-fn grid(walk: Walk, tokens: u8, leaks: bool) -> (Draft, u8) {
+pub fn grid(walk: Walk, tokens: u8, leaks: bool) -> (Draft, u8) {
     let (link, end) = (walk.link(), walk.end());
     let mut draft = walk.draft();
     draft.put(walk.names - 1, walk.names - 1, 0);
@@ -525,5 +526,6 @@ pub fn all(seed: u64) -> Vec<Sample> {
     ]);
     samples.extend(carried(random));
     samples.extend(of_twelve(random));
+    samples.extend(slow::family());
     samples
 }

@@ -4,10 +4,15 @@
 
 pub mod before;
 pub mod families;
+pub mod judging;
+pub mod lines;
 pub mod logic;
 pub mod measure;
+pub mod mutations;
+pub mod notation;
 pub mod plain;
 pub mod pressing;
 pub mod pruned;
 pub mod sheets;
+pub mod slow;
 pub mod table;
