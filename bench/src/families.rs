@@ -1,5 +1,6 @@
 //! The benchmark's tables, by family. All are made from one seed.
 
+use crate::found;
 use crate::pruned;
 use crate::slow;
 use crate::table::{listing, Answer, Table};
@@ -527,5 +528,6 @@ pub fn all(seed: u64) -> Vec<Sample> {
     samples.extend(carried(random));
     samples.extend(of_twelve(random));
     samples.extend(slow::family());
+    samples.extend(found::family());
     samples
 }

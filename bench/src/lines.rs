@@ -83,7 +83,7 @@ impl Lines {
     }
 
     /// Half of the candidates are tables by chance, the others changed from files that
-    /// stayed: of the line that took the least time so far.
+    /// stayed, of the line that took the least time.
     pub fn next(&mut self, random: &mut Random) -> Candidate {
         let last = self.lines.len() - 1;
         let alive = (0..=last).filter(|&line| !self.lines[line].members.is_empty());
@@ -91,9 +91,9 @@ impl Lines {
         match line {
             Some(line) if random.percent(50) => {
                 let table = self.child(random, line);
-                let charge = self.lines[line].members[0].time;
-                self.lines[line].spent += charge;
-                self.candidate(table, line, Some(charge))
+                let charged = self.lines[line].members[0].time;
+                self.lines[line].spent += charged;
+                self.candidate(table, line, Some(charged))
             }
             _ => self.candidate(by_chance(random), last, None),
         }

@@ -145,10 +145,11 @@ fn main() {
         limit: bench.limit,
     };
     let samples = all(SEED);
-    match env::var("BENCH_ONLY").as_deref() {
-        Ok("press") => return tell(pressing::print(&pressing, &samples), pressing::REACHED),
-        Ok("sheet") => return tell(sheets::print(&pressing, &samples), sheets::REACHED),
-        Ok("before") => {
+    let only = env::var("BENCH_ONLY").unwrap_or_default();
+    match only.as_str() {
+        "press" => return tell(pressing::print(&pressing, &samples), pressing::REACHED),
+        "sheet" => return tell(sheets::print(&pressing, &samples), sheets::REACHED),
+        "before" => {
             let Some(program) = env::var_os("BENCH_BEFORE").map(PathBuf::from) else {
                 fail("BENCH_BEFORE is the desk program of before");
             };
@@ -162,6 +163,13 @@ fn main() {
         }
         _ => {}
     }
+    let families: Vec<&str> = only.split(',').filter(|word| !word.is_empty()).collect();
+    for family in &families {
+        if !samples.iter().any(|sample| sample.family == *family) {
+            fail(&format!("BENCH_ONLY: no family {family}"));
+        }
+    }
+    let is_asked = |sample: &&Sample| families.is_empty() || families.contains(&sample.family);
     // What starting takes: the empty input.
     let empty = folder.join("empty");
     fs::write(&empty, []).expect("written");
@@ -185,7 +193,7 @@ fn main() {
     println!("|---|---:|---|---:|---:|---:|---:|---:|---:|---:|---:|---:|");
     let mut missed = Vec::new();
     let mut sums: BTreeMap<&str, (u64, u64)> = BTreeMap::new();
-    for sample in &samples {
+    for sample in samples.iter().filter(is_asked) {
         let bytes = sample.draft.file();
         let contents = file::read(&bytes).expect("an accepted file");
         let (answer, wanted) = sample.answer();
@@ -262,6 +270,9 @@ fn main() {
     let all_of =
         format!("{FEWER} times fewer instructions on {HELD_TO:?}; no file over {LONGEST:?}");
     tell(missed, &all_of);
+    if !families.is_empty() {
+        return;
+    }
     println!();
     tell(pressing::print(&pressing, &samples), pressing::REACHED);
     println!();

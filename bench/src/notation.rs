@@ -50,7 +50,10 @@ fn runs(rows: &[u32]) -> String {
     while let Some((&first, others)) = rest.split_first() {
         let second = others.first().copied().unwrap_or(0);
         let same = going(rest, |_| first);
-        let turn = going(rest, |place| [first, second][place % 2]);
+        let turn = match going(rest, |place| [first, second][place % 2]) {
+            2 => 0,
+            many => many,
+        };
         let twice = going(rest, |place| first.checked_shl(place as u32).unwrap_or(0));
         let many = same.max(turn).max(twice);
         if many == same {

@@ -2,7 +2,7 @@
 //! all cells, a step a round, and the rules behind the walk are equal, are searched
 //! in most rounds, and do nothing.
 
-use crate::families::{eight, grid, twelve, Sample, Walk};
+use crate::families::{eight, grid, twelve, Sample};
 use reference::generate::{rule, Draft, CREATE_OBJECT, DELETE, ENTER};
 
 const NAMES: usize = 30;
@@ -144,22 +144,39 @@ fn parities() -> ((Draft, u8), Draft) {
 /// three times as many rounds: what walks, and what comes into the cell across,
 /// carries the right that blank 0 is tested for.
 fn tied() -> ((Draft, u8), Draft) {
-    let walk: Walk = twelve(NAMES);
-    let (mut draft, right) = grid(walk, 3, false);
+    let (mut draft, right) = grid(twelve(NAMES), 3, false);
     let [tested, tie, lacked, asked] = [6, 7, 8, 9];
     relate(&mut draft, tested, |s, o| s == o);
     relate(&mut draft, tie, full);
     relate(&mut draft, lacked, even);
     relate(&mut draft, asked, odd);
-    for token in 0..3 {
-        let across = rule(2, &[[token, 0, 1]], &[[ENTER, token + 3, 1, 0]]);
-        draft.rules.push(across);
-        draft.carry(token, tested);
-        draft.carry(token + 3, tested);
-    }
+    cross(&mut draft, 3, tested);
     let conditions = [[tested, 0, 0], [tie, 0, 1], [asked, 1, 2], [asked, 2, 3]];
     let vain = rule(4, &conditions, &[[ENTER, lacked, 1, 3]]);
     padded((draft, right), vain)
+}
+
+/// Likewise with a right that stands where both names are 0 or neither is: what is
+/// related to the name of blank 1 is related, but each name has one that it is not
+/// related to.
+fn classes() -> ((Draft, u8), Draft) {
+    let (mut draft, right) = grid(twelve(NAMES), 4, false);
+    let [tested, same] = [8, 9];
+    relate(&mut draft, tested, full);
+    relate(&mut draft, same, |s, o| (s == 0) == (o == 0));
+    cross(&mut draft, 4, tested);
+    let conditions = [[tested, 0, 0], [tested, 0, 1], [same, 1, 2], [same, 1, 3]];
+    padded((draft, right), rule(4, &conditions, &[[ENTER, same, 2, 3]]))
+}
+
+/// For each token a right that comes into the cell across; both carry the other one.
+fn cross(draft: &mut Draft, tokens: u8, carried: u8) {
+    for token in 0..tokens {
+        let across = rule(2, &[[token, 0, 1]], &[[ENTER, token + tokens, 1, 0]]);
+        draft.rules.push(across);
+        draft.carry(token, carried);
+        draft.carry(token + tokens, carried);
+    }
 }
 
 /// The family. What the equal rules do is nothing: the listing is that of the table
@@ -172,6 +189,7 @@ pub fn family() -> Vec<Sample> {
         ("together", together()),
         ("parities", parities()),
         ("tied", tied()),
+        ("classes", classes()),
     ];
     let mut samples = vec![
         Sample::new("slow", "steps", steps()),

@@ -25,7 +25,7 @@ const OF_A_LINE: usize = 3;
 const WORST: usize = 10;
 /// The seed of the benchmark's own tables.
 const SEED: u64 = 20_260_101;
-const KNOWN: [&str; 2] = ["worst", "slow"];
+const KNOWN: [&str; 3] = ["worst", "slow", "found"];
 
 fn main() {
     let words: Vec<String> = env::args().skip(1).collect();
