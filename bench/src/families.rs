@@ -487,6 +487,29 @@ fn of_twelve(random: &mut Random) -> Vec<Sample> {
     ]
 }
 
+/// Chains with rules besides that do nothing.
+fn worst() -> [Sample; 2] {
+    [
+        Sample {
+            same: Some(grid(eight(30), 6, true).0),
+            ..Sample::new("worst", "deep", deep(grid(eight(30), 6, true), 6))
+        },
+        // So many steps a round that the next one searches all places.
+        Sample {
+            same: Some(columns(eight(30), 6).0),
+            ..Sample::new("worst", "broad", vain(columns(eight(30), 6), 6))
+        },
+    ]
+}
+
+/// The files that are known to be slow.
+pub fn known() -> Vec<Sample> {
+    let mut samples = Vec::from(worst());
+    samples.extend(slow::family());
+    samples.extend(found::family());
+    samples
+}
+
 pub fn all(seed: u64) -> Vec<Sample> {
     let mut random = Random::new(seed);
     let random = &mut random;
@@ -511,16 +534,9 @@ pub fn all(seed: u64) -> Vec<Sample> {
         Sample::new("chain", "5400", grid(eight(30), 6, true)),
         Sample::new("chain", "5400-safe", grid(eight(30), 6, false)),
         Sample::new("chain", "ballast", ballast(eight(30), 6)),
-        // The rules that they have besides do nothing.
-        Sample {
-            same: Some(grid(eight(30), 6, true).0),
-            ..Sample::new("worst", "deep", deep(grid(eight(30), 6, true), 6))
-        },
-        // So many steps a round that the next one searches all places.
-        Sample {
-            same: Some(columns(eight(30), 6).0),
-            ..Sample::new("worst", "broad", vain(columns(eight(30), 6), 6))
-        },
+    ]);
+    samples.extend(worst());
+    samples.extend([
         Sample::new("closing", "3-blanks", closing(four(30), 3, true)),
         Sample::new("closing", "4-blanks", closing(four(30), 4, true)),
         Sample::new("closing", "safe", closing(four(30), 4, false)),

@@ -5,7 +5,7 @@
 //! Arguments: the folder to write into, the desk program, the plain program, and
 //! the one that makes a single call.
 
-use bench::families::{all, Sample};
+use bench::families::{all, known, Sample};
 use bench::measure::{fail, instructions, millions, over, run, seconds, time, times, Run};
 use bench::pressing::{self, Pressing};
 use bench::table::Answer;
@@ -113,6 +113,20 @@ fn print_row(cells: &[String]) {
     println!("{line}");
 }
 
+fn has(samples: &[Sample], family: &str) -> bool {
+    samples.iter().any(|sample| sample.family == family)
+}
+
+/// All tables; those known to be slow alone, where no others are asked for.
+fn samples_of(families: &[&str]) -> Vec<Sample> {
+    let known = known();
+    let mut asked = families.iter();
+    if !families.is_empty() && asked.all(|family| has(&known, family)) {
+        return known;
+    }
+    all(SEED)
+}
+
 fn main() {
     let words: Vec<PathBuf> = env::args_os().skip(1).map(PathBuf::from).collect();
     let [folder, desk, plain, press] = words.as_slice() else {
@@ -144,8 +158,9 @@ fn main() {
         press: press.clone(),
         limit: bench.limit,
     };
-    let samples = all(SEED);
     let only = env::var("BENCH_ONLY").unwrap_or_default();
+    let families: Vec<&str> = only.split(',').filter(|word| !word.is_empty()).collect();
+    let samples = samples_of(&families);
     match only.as_str() {
         "press" => return tell(pressing::print(&pressing, &samples), pressing::REACHED),
         "sheet" => return tell(sheets::print(&pressing, &samples), sheets::REACHED),
@@ -163,9 +178,8 @@ fn main() {
         }
         _ => {}
     }
-    let families: Vec<&str> = only.split(',').filter(|word| !word.is_empty()).collect();
     for family in &families {
-        if !samples.iter().any(|sample| sample.family == *family) {
+        if !has(&samples, family) {
             fail(&format!("BENCH_ONLY: no family {family}"));
         }
     }

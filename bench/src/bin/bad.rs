@@ -2,7 +2,7 @@
 //! of candidates, and the folder that the ten slowest are written into. `README.md`
 //! tells what is tried and what is printed.
 
-use bench::families::all;
+use bench::families::known;
 use bench::judging::{child, Cost, Judge, CHILD};
 use bench::lines::{Candidate, Lines, Member};
 use bench::measure::{fail, instructions, millions, seconds};
@@ -23,9 +23,6 @@ const TOLD: u64 = 1_000;
 const COUNTED: usize = 16;
 const OF_A_LINE: usize = 3;
 const WORST: usize = 10;
-/// The seed of the benchmark's own tables.
-const SEED: u64 = 20_260_101;
-const KNOWN: [&str; 3] = ["worst", "slow", "found"];
 
 fn main() {
     let words: Vec<String> = env::args().skip(1).collect();
@@ -70,8 +67,7 @@ fn search(seed: u64, number: u64, folder: &Path) -> Lines {
         let started = Judge::start();
         judges.push(started.unwrap_or_else(|wrong| fail(&wrong.to_string())));
     }
-    let known = all(SEED).into_iter();
-    let known: Vec<_> = known.filter(|one| KNOWN.contains(&one.family)).collect();
+    let known = known();
     let mut lines = Lines::new(known.iter().map(|sample| sample.name.clone()));
     let first = known.into_iter().enumerate();
     let first = first.map(|(line, sample)| lines.first(line, (sample.draft, sample.right)));
@@ -94,7 +90,9 @@ fn search(seed: u64, number: u64, folder: &Path) -> Lines {
         if ended {
             return lines;
         }
-        batch.extend((0..left).map(|_| lines.next(&mut random)));
+        // Each has numbers of its own, however many others take.
+        let mut one = || lines.next(&mut Random::new(random.word()));
+        batch.extend((0..left).map(|_| one()));
     }
 }
 
