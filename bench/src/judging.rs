@@ -28,7 +28,7 @@ struct Timer {
     left: Span,
 }
 
-/// The processor time of the process; by both counts that of Linux.
+/// Linux's numbers for the processor time of the process.
 const PROCESS_CLOCK: i32 = 2;
 const PROCESS_TIMER: i32 = 2;
 

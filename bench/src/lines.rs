@@ -14,6 +14,8 @@ pub struct Member {
     pub table: Asked,
     pub time: Duration,
     pub steps: u64,
+    /// It was known before the search, which has not found it.
+    known: bool,
 }
 
 pub struct Line {
@@ -31,6 +33,7 @@ pub struct Candidate {
     /// What its line was charged for it, until what it takes is known; none where it is
     /// by chance, which no line pays for.
     charged: Option<Duration>,
+    known: bool,
 }
 
 pub struct Lines {
@@ -56,7 +59,8 @@ impl Line {
             Some(other) => *other = member,
             None => self.members.push(member),
         }
-        self.members.sort_by_key(|member| std::cmp::Reverse(member.time));
+        self.members
+            .sort_by_key(|member| std::cmp::Reverse(member.time));
         self.members.truncate(KEPT);
     }
 }
@@ -79,7 +83,10 @@ impl Lines {
 
     /// A known file as the first of its line.
     pub fn first(&self, line: usize, table: Asked) -> Candidate {
-        self.candidate(table, line, None)
+        Candidate {
+            known: true,
+            ..self.candidate(table, line, None)
+        }
     }
 
     /// Half of the candidates are tables by chance, the others changed from files that
@@ -105,6 +112,7 @@ impl Lines {
             line,
             dull: self.lines[line].dull(),
             charged,
+            known: false,
         }
     }
 
@@ -135,15 +143,17 @@ impl Lines {
                 table: candidate.table,
                 time,
                 steps,
+                known: candidate.known,
             });
         }
     }
 
-    /// The slowest, at most so many of a line, with their lines.
+    /// The slowest that were found, at most so many of a line, with their lines.
     pub fn slowest(&self, of_a_line: usize) -> Vec<(&str, &Member)> {
         let mut all: Vec<(&str, &Member)> = Vec::new();
         for line in &self.lines {
-            let few = line.members.iter().take(of_a_line);
+            let found = line.members.iter().filter(|member| !member.known);
+            let few = found.take(of_a_line);
             all.extend(few.map(|member| (line.name.as_str(), member)));
         }
         all.sort_by_key(|(_, member)| std::cmp::Reverse(member.time));

@@ -15,7 +15,6 @@ const CONDITIONS: usize = 4;
 pub type Asked = (Draft, u8);
 
 /// A rule of one step.
-#[derive(Clone, PartialEq)]
 struct Parts {
     blanks: u8,
     conditions: Vec<[u8; 3]>,
@@ -203,7 +202,7 @@ fn change_rules(random: &mut Random, draft: &mut Draft) {
     if draft.rules.is_empty() {
         return;
     }
-    let chosen = random.pick(&(0..draft.rules.len()).collect::<Vec<_>>());
+    let chosen = random.below(draft.rules.len());
     let old = draft.rules[chosen].clone();
     let mut parts = Parts::of(&old);
     change_rule(random, draft.rights, &mut parts);
@@ -254,7 +253,11 @@ fn swap_blanks(random: &mut Random, parts: &mut Parts) {
     for condition in &mut parts.conditions {
         condition[1..].iter_mut().for_each(swap);
     }
-    let named = if matches!(parts.step[0], ENTER | DELETE) { 2 } else { 1 };
+    let named = if matches!(parts.step[0], ENTER | DELETE) {
+        2
+    } else {
+        1
+    };
     parts.step[2..2 + named].iter_mut().for_each(swap);
 }
 

@@ -98,7 +98,10 @@ pub fn read(text: &str) -> (Draft, u8) {
 
 fn read_cells(draft: &mut Draft, text: &str) {
     let mut words = text.split(' ');
-    let right: u8 = words.next().and_then(|word| word.parse().ok()).expect("a right");
+    let right: u8 = words
+        .next()
+        .and_then(|word| word.parse().ok())
+        .expect("a right");
     let rows: Vec<u32> = words.flat_map(read_run).collect();
     for (s, row) in rows.into_iter().enumerate() {
         for o in (0..NAMES).filter(|o| row >> o & 1 == 1) {

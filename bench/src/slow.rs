@@ -55,9 +55,7 @@ fn steps() -> (Draft, u8) {
         let step = [ENTER, entered, 0, 2];
         draft.rules.push(rule(4, &conditions, &[step]));
     }
-    draft
-        .rules
-        .push(rule(2, &[[4, 0, 1]], &[[ENTER, 2, 0, 1]]));
+    draft.rules.push(rule(2, &[[4, 0, 1]], &[[ENTER, 2, 0, 1]]));
     (draft, 7)
 }
 
@@ -71,9 +69,7 @@ fn closing() -> (Draft, u8) {
     relate(&mut draft, 2, |s, _| s % 2 == 0);
     relate(&mut draft, 3, |s, _| s % 2 == 0);
     relate(&mut draft, 4, full);
-    draft
-        .rules
-        .push(rule(2, &[[4, 0, 1]], &[[ENTER, 0, 0, 1]]));
+    draft.rules.push(rule(2, &[[4, 0, 1]], &[[ENTER, 0, 0, 1]]));
     let conditions = [[1, 0, 1], [2, 0, 2], [3, 1, 3]];
     let vain = rule(4, &conditions, &[[DELETE, 0, 2, 3]]);
     draft.rules.resize(RULES, vain);
@@ -106,9 +102,7 @@ fn mirrored() -> (Draft, u8) {
     let (mut draft, right) = grid(eight(NAMES), 1, false);
     relate(&mut draft, 1, |s, o| s == o);
     for [s, o] in [[0, 1], [1, 0]] {
-        draft
-            .rules
-            .push(rule(2, &[[0, 0, 1]], &[[ENTER, 1, s, o]]));
+        draft.rules.push(rule(2, &[[0, 0, 1]], &[[ENTER, 1, s, o]]));
     }
     (draft, right)
 }

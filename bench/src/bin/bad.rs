@@ -122,11 +122,12 @@ fn judge_all(judges: &mut [Judge], batch: &[Candidate]) -> Vec<Cost> {
 
 fn tell(lines: &Lines, took: Duration) {
     let slowest = lines.slowest(1);
-    let told = slowest.iter().take(3).map(|(line, member)| {
-        format!("{line} {} s, {} steps", seconds(member.time), member.steps)
-    });
+    let told = slowest
+        .iter()
+        .take(3)
+        .map(|(line, member)| format!("{line} {} s, {} steps", seconds(member.time), member.steps));
     println!(
-        "{} tried in {} s, {} refused, {} stopped; slowest: {}",
+        "{} tried in {} s, {} refused, {} stopped; slowest found: {}",
         lines.tried,
         took.as_secs(),
         lines.refused,
