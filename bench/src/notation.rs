@@ -121,3 +121,18 @@ fn read_run(word: &str) -> Vec<u32> {
     let turn = rows.iter().cycle().copied();
     turn.take(many(count) as usize).collect()
 }
+
+#[cfg(test)]
+mod tests {
+    use super::{read, write};
+    use crate::families::known;
+
+    #[test]
+    fn what_is_written_is_read() {
+        for sample in known() {
+            let (draft, right) = read(&write(&sample.draft, sample.right));
+            assert_eq!(draft.file(), sample.draft.file(), "{}", sample.name);
+            assert_eq!(right, sample.right, "{}", sample.name);
+        }
+    }
+}
