@@ -1,6 +1,8 @@
 //! The benchmark's tables, by family. All are made from one seed.
 
+use crate::found;
 use crate::pruned;
+use crate::slow;
 use crate::table::{listing, Answer, Table};
 use reference::file::{self, RIGHTS};
 use reference::generate::{
@@ -19,7 +21,7 @@ pub struct Sample {
 }
 
 impl Sample {
-    fn new(family: &'static str, name: &str, (draft, right): (Draft, u8)) -> Sample {
+    pub fn new(family: &'static str, name: &str, (draft, right): (Draft, u8)) -> Sample {
         Sample {
             family,
             name: format!("{family}-{name}"),
@@ -180,9 +182,9 @@ fn wanted_with(
 /// links each name to the one below, the right before it marks the last name and the
 /// first.
 #[derive(Clone, Copy)]
-struct Walk {
-    rights: u8,
-    names: usize,
+pub struct Walk {
+    pub rights: u8,
+    pub names: usize,
 }
 
 impl Walk {
@@ -208,12 +210,12 @@ impl Walk {
 }
 
 /// Eight rights, and so many names.
-fn eight(names: usize) -> Walk {
+pub fn eight(names: usize) -> Walk {
     Walk { rights: 8, names }
 }
 
 /// As many rights as there can be, and so many names.
-fn twelve(names: usize) -> Walk {
+pub fn twelve(names: usize) -> Walk {
     Walk {
         rights: RIGHTS,
         names,
@@ -241,7 +243,7 @@ fn diagonal(walk: Walk, tokens: u8) -> (Draft, u8) {
 /// A token right walks through all cells, row by row and each row downwards,
 /// a round a step: `tokens` x `names` x `names` rounds. At the end of it all
 /// the linking right leaks, or nothing does.
-fn grid(walk: Walk, tokens: u8, leaks: bool) -> (Draft, u8) {
+pub fn grid(walk: Walk, tokens: u8, leaks: bool) -> (Draft, u8) {
     let (link, end) = (walk.link(), walk.end());
     let mut draft = walk.draft();
     draft.put(walk.names - 1, walk.names - 1, 0);
@@ -485,6 +487,29 @@ fn of_twelve(random: &mut Random) -> Vec<Sample> {
     ]
 }
 
+/// Chains with rules besides that do nothing.
+fn worst() -> [Sample; 2] {
+    [
+        Sample {
+            same: Some(grid(eight(30), 6, true).0),
+            ..Sample::new("worst", "deep", deep(grid(eight(30), 6, true), 6))
+        },
+        // So many steps a round that the next one searches all places.
+        Sample {
+            same: Some(columns(eight(30), 6).0),
+            ..Sample::new("worst", "broad", vain(columns(eight(30), 6), 6))
+        },
+    ]
+}
+
+/// The files that are known to be slow.
+pub fn known() -> Vec<Sample> {
+    let mut samples = Vec::from(worst());
+    samples.extend(slow::family());
+    samples.extend(found::family());
+    samples
+}
+
 pub fn all(seed: u64) -> Vec<Sample> {
     let mut random = Random::new(seed);
     let random = &mut random;
@@ -509,21 +534,16 @@ pub fn all(seed: u64) -> Vec<Sample> {
         Sample::new("chain", "5400", grid(eight(30), 6, true)),
         Sample::new("chain", "5400-safe", grid(eight(30), 6, false)),
         Sample::new("chain", "ballast", ballast(eight(30), 6)),
-        // The rules that they have besides do nothing.
-        Sample {
-            same: Some(grid(eight(30), 6, true).0),
-            ..Sample::new("worst", "deep", deep(grid(eight(30), 6, true), 6))
-        },
-        // So many steps a round that the next one searches all places.
-        Sample {
-            same: Some(columns(eight(30), 6).0),
-            ..Sample::new("worst", "broad", vain(columns(eight(30), 6), 6))
-        },
+    ]);
+    samples.extend(worst());
+    samples.extend([
         Sample::new("closing", "3-blanks", closing(four(30), 3, true)),
         Sample::new("closing", "4-blanks", closing(four(30), 4, true)),
         Sample::new("closing", "safe", closing(four(30), 4, false)),
     ]);
     samples.extend(carried(random));
     samples.extend(of_twelve(random));
+    samples.extend(slow::family());
+    samples.extend(found::family());
     samples
 }

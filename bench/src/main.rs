@@ -5,7 +5,7 @@
 //! Arguments: the folder to write into, the desk program, the plain program, and
 //! the one that makes a single call.
 
-use bench::families::{all, Sample};
+use bench::families::{all, known, Sample};
 use bench::measure::{fail, instructions, millions, over, run, seconds, time, times, Run};
 use bench::pressing::{self, Pressing};
 use bench::table::Answer;
@@ -113,6 +113,20 @@ fn print_row(cells: &[String]) {
     println!("{line}");
 }
 
+fn has(samples: &[Sample], family: &str) -> bool {
+    samples.iter().any(|sample| sample.family == family)
+}
+
+/// All tables; those known to be slow alone, where no others are asked for.
+fn samples_of(families: &[&str]) -> Vec<Sample> {
+    let known = known();
+    let mut asked = families.iter();
+    if !families.is_empty() && asked.all(|family| has(&known, family)) {
+        return known;
+    }
+    all(SEED)
+}
+
 fn main() {
     let words: Vec<PathBuf> = env::args_os().skip(1).map(PathBuf::from).collect();
     let [folder, desk, plain, press] = words.as_slice() else {
@@ -144,11 +158,13 @@ fn main() {
         press: press.clone(),
         limit: bench.limit,
     };
-    let samples = all(SEED);
-    match env::var("BENCH_ONLY").as_deref() {
-        Ok("press") => return tell(pressing::print(&pressing, &samples), pressing::REACHED),
-        Ok("sheet") => return tell(sheets::print(&pressing, &samples), sheets::REACHED),
-        Ok("before") => {
+    let only = env::var("BENCH_ONLY").unwrap_or_default();
+    let families: Vec<&str> = only.split(',').filter(|word| !word.is_empty()).collect();
+    let samples = samples_of(&families);
+    match only.as_str() {
+        "press" => return tell(pressing::print(&pressing, &samples), pressing::REACHED),
+        "sheet" => return tell(sheets::print(&pressing, &samples), sheets::REACHED),
+        "before" => {
             let Some(program) = env::var_os("BENCH_BEFORE").map(PathBuf::from) else {
                 fail("BENCH_BEFORE is the desk program of before");
             };
@@ -162,6 +178,12 @@ fn main() {
         }
         _ => {}
     }
+    for family in &families {
+        if !has(&samples, family) {
+            fail(&format!("BENCH_ONLY: no family {family}"));
+        }
+    }
+    let is_asked = |sample: &&Sample| families.is_empty() || families.contains(&sample.family);
     // What starting takes: the empty input.
     let empty = folder.join("empty");
     fs::write(&empty, []).expect("written");
@@ -185,7 +207,7 @@ fn main() {
     println!("|---|---:|---|---:|---:|---:|---:|---:|---:|---:|---:|---:|");
     let mut missed = Vec::new();
     let mut sums: BTreeMap<&str, (u64, u64)> = BTreeMap::new();
-    for sample in &samples {
+    for sample in samples.iter().filter(is_asked) {
         let bytes = sample.draft.file();
         let contents = file::read(&bytes).expect("an accepted file");
         let (answer, wanted) = sample.answer();
@@ -262,6 +284,9 @@ fn main() {
     let all_of =
         format!("{FEWER} times fewer instructions on {HELD_TO:?}; no file over {LONGEST:?}");
     tell(missed, &all_of);
+    if !families.is_empty() {
+        return;
+    }
     println!();
     tell(pressing::print(&pressing, &samples), pressing::REACHED);
     println!();

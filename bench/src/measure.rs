@@ -9,7 +9,7 @@ use std::thread;
 use std::time::{Duration, Instant};
 
 /// No count by callgrind takes longer.
-const CALLGRIND: Duration = Duration::from_secs(60);
+const CALLGRIND: Duration = Duration::from_secs(180);
 
 /// A program's end: what it printed, and how long it took; or the time limit.
 pub enum Run {
