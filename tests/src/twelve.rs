@@ -291,15 +291,7 @@ pub fn played() -> Vec<Played> {
         full.cells[32 * s..32 * s + 4].fill(all_rights);
     }
     let mut all = Vec::new();
-    let play = |what, draft: &Draft, trace: &[[u8; 5]], right, answer, cells: &[_]| Played {
-        what,
-        draft: draft.clone(),
-        trace: trace.to_vec(),
-        right,
-        answer,
-        kinds: Vec::new(),
-        cells: cells.to_vec(),
-    };
+    let play = Played::of_cells;
     let run = [0, 1, 2, X, X];
     for right in 0..RIGHTS {
         let other = (right + 8) % RIGHTS;

@@ -95,7 +95,7 @@ in-common a b i s t = go (ℕ-discrete (bitAnd a b) 0)
     go (yes e) = absurd (fails (has 0 i) (has-none i) (subst (λ (x : ℕ). T (has x i)) e (rw has-and (and-intro (has a i) (has b i) s t))))
     go (no n) = rw (ne-eqb (bitAnd a b) 0 n) tt
 
--- ---- what a set meets, in a system that carries as the bytes say
+-- ---- what a set meets, in a system that carries as the entries say
 module _ (S : System) (l : List ℕ) (e : S .carried ≡ carriedIn l) (few : S .rights ≤ rights) where
   pub carries-is : (i q : ℕ) → carries S i q ≡ reaches (S .rights) l i q
   carries-is i q = ap (λ (c : ℕ → ℕ → Bool). chained (S .rights) c (S .rights) i q) e

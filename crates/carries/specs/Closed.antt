@@ -1,4 +1,4 @@
--- Carrying through further rights, as sets: of each right those that it carries, and those that carry it, for a file of g rights with the bytes l.
+-- Carrying through further rights, as sets: of each right those that it carries, and those that carry it, for a file of g rights with the entries l.
 use mathlib.Core.Bool.{Bool}
 use mathlib.Core.List.{List}
 use Prim.Native.Nat.{ℕ}
@@ -8,7 +8,7 @@ use Rattle.protection.specs.Limits.{rights}
 use Rattle.protection.specs.Carrying.{chained}
 use Rattle.carries.specs.Bytes.{carriedIn}
 
--- right i carries right q: the machine's `carries`, of bytes
+-- right i carries right q: the machine's `carries`, of entries
 abbrev pub reaches : ℕ → List ℕ → ℕ → ℕ → Bool
 reaches g l i q = chained g (carriedIn l) g i q
 

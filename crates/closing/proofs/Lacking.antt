@@ -100,7 +100,7 @@ fewer-meet S f f' h q e = is-false (meets S f' q) (λ t. fails (meets S f q) e (
 pub out-lacks : (S : System) (m : State) (r s o u v q : ℕ) → meets S (m .cell u v) q ≡ false → meets S (takeOut m r s o .cell u v) q ≡ false
 out-lacks S m r s o u v q e = fewer-meet S (m .cell u v) (takeOut m r s o .cell u v) (λ i t. and-right (not (sameCell u v s o && eqb i r)) (m .cell u v i) t) q e
 
--- a right in a cell of the state is one of the cell's byte
+-- a right in a cell of the state is one of the cell's set
 in-byte : (m : Matrix) (u v i : ℕ) → T (stateOf m .cell u v i) → T (has (getD (m .cells) (names * u + v) 0) i)
 in-byte m u v i = go (inside (m .kinds) u v)
   where

@@ -33,7 +33,7 @@ use Rattle.closing.specs.declared.Pair.{Pair}
 use Rattle.closing.proofs.ClosingCalls.{none-covered, both-none}
 use Rattle.closing.proofs.PassedBy.{concerned-covers}
 
--- in cells as an accepted file has them, the byte tells whether the right is there: a cell without row or column is 0
+-- in cells as an accepted file has them, the set tells whether the right is there: a cell without row or column is 0
 held-is : (g : ℕ) (ks cs : List ℕ) → Canonical g ks cs → (s o q : ℕ) → s < names → o < names → rightsIn ks cs s o q ≡ has (getD cs (names * s + o) 0) q
 held-is g ks cs K s o q ls lo = go (inside ks s o) (λ h. K .outside s o ls lo h)
   where
@@ -66,7 +66,7 @@ module _ (p : Policy) (reserved : ℕ) (m : Matrix) (t : Tables) (r : ℕ) where
   closing-none : (c : ℕ) → 1024 ≤ c → c ≡ firstPair → [] ≡ closing S R r m₀ (stateOf m)
   closing-none c l e = ap (λ (b : Bool). elim b [ true ↦ pairAt S R r m₀ (stateOf m) (c / 32) (c % 32) | false ↦ [] ]) (sym (le-ltb c 1024 l)) ∙ sym (closing-at c e)
 
-  -- a start cell by its byte
+  -- a start cell by its set
   start-cell : PolicyFits p → (c : ℕ) → c < 1024 → (b : Bool) → b ≡ has (getD (p .matrix .cells) c 0) r → m₀ .cell (c / 32) (c % 32) r ≡ b
   start-cell F c l b e =
       let z : names * (c / 32) + c % 32 ≡ c = omega arith in

@@ -1,4 +1,4 @@
--- Kinds and cells as bytes (document 01, "The matrix and the house file"), read as a state; and a state written as bytes.
+-- Kinds and cells as the numbers of a file (document 01, "The matrix and the house file"), read as a state; and a state written as such.
 use mathlib.Core.Bool.{Bool, true, false, _&&_}
 use mathlib.Core.List.{List}
 use Prim.Native.Nat.{ℕ, zero, suc, _+_, _*_, _/_, _%_}
@@ -34,7 +34,7 @@ view ks cs = record { kind = λ x. kindOf (getD ks x 0); cell = rightsIn ks cs }
 unfoldable pub kindsOf : State → List ℕ
 kindsOf m = tabulate (λ x. kindByte (m .kind x)) names 0
 
--- a cell of the state as a byte
+-- a cell of the state as a set of rights
 abbrev pub cellByte : State → ℕ → ℕ
 cellByte m c = number (m .cell (c / names) (c % names)) rights
 

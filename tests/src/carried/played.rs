@@ -21,6 +21,26 @@ pub struct Played {
 }
 
 impl Played {
+    /// One after which all kinds are as they were.
+    pub fn of_cells(
+        what: &'static str,
+        draft: &Draft,
+        trace: &[[u8; 5]],
+        right: u8,
+        answer: (u8, u64),
+        cells: &[(usize, usize, Set)],
+    ) -> Played {
+        Played {
+            what,
+            draft: draft.clone(),
+            trace: trace.to_vec(),
+            right,
+            answer,
+            kinds: Vec::new(),
+            cells: cells.to_vec(),
+        }
+    }
+
     /// The file after all rule runs of the trace, refused ones included.
     pub fn file_after(&self) -> Vec<u8> {
         let mut draft = self.draft.clone();
@@ -45,14 +65,9 @@ pub fn played() -> Vec<Played> {
     let enter = |tested: &[[u8; 3]], right: u8| rule(1, tested, &[[ENTER, right, 0, 0]]);
     let delete = |tested: &[[u8; 3]], right: u8| rule(1, tested, &[[DELETE, right, 0, 0]]);
     let run = |number: u8| [number, 0, X, X, X];
-    let play = |what, draft: &Draft, trace: &[[u8; 5]], right, answer, after: Option<Set>| Played {
-        what,
-        draft: draft.clone(),
-        trace: trace.to_vec(),
-        right,
-        answer,
-        kinds: Vec::new(),
-        cells: after.map(|rights| (0, 0, rights)).into_iter().collect(),
+    let play = |what, draft: &Draft, trace: &[[u8; 5]], right, answer, after: Option<Set>| {
+        let cells: Vec<_> = after.map(|rights| (0, 0, rights)).into_iter().collect();
+        Played::of_cells(what, draft, trace, right, answer, &cells)
     };
     let if_0 = [[0, 0, 0]];
     let by_1 = table(&[1], &[(1, 0)], &[enter(&if_0, 2)]);
