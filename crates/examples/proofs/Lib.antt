@@ -1,4 +1,1 @@
-pub mod Walk
-pub mod Tests
-pub mod Computed
 pub mod Proved

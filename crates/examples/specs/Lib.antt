@@ -1,13 +1,1 @@
-pub mod Build
-pub mod Cases
-pub mod Slips
-pub mod Files
-pub mod Runs
-pub mod Replays
-pub mod Judgements
-pub mod Needs
-pub mod Trusted
-pub mod Sheets
-pub mod Carrying
-pub mod Wide
 pub mod Table

@@ -13,18 +13,18 @@ use Rattle.safety.specs.declared.Judgement.{Judgement}
 use Rattle.safety.specs.declared.Judgement.the-variants.{Refused, Safe, Unsafe}
 use Rattle.needs.specs.declared.Need.{Need}
 use Rattle.needs.specs.declared.Need.the-variants.{Refused as NeedRefused, Held, Never}
-use Rattle.examples.specs.Build.{joined}
-use Rattle.examples.specs.Cases.{Case, checks, runs, replays, judges, judgesPart, needs, asks, prints, Row, rowNames, AllHold}
-use Rattle.examples.specs.Slips.{slipCases}
-use Rattle.examples.specs.Files.{headerCases, matrixCases, carryCases, ruleCases}
-use Rattle.examples.specs.Runs.{refusedCases, doneCases}
-use Rattle.examples.specs.Replays.{replayCases}
-use Rattle.examples.specs.Judgements.{callerCases, roundCases, createCases, closingCases}
-use Rattle.examples.specs.Needs.{needCases}
-use Rattle.examples.specs.Trusted.{trustedCases}
-use Rattle.examples.specs.Sheets.{sheetCases}
-use Rattle.examples.specs.Carrying.{metCases, carriedReplayCases, carriedJudgeCases, carriedQuestionCases}
-use Rattle.examples.specs.Wide.{wideRunCases, wideQuestionCases, largestCases}
+use Rattle.rows.specs.Build.{joined}
+use Rattle.rows.specs.Cases.{Case, checks, runs, replays, judges, judgesPart, needs, asks, prints, Row, rowNames, AllHold}
+use Rattle.sliprows.specs.Slips.{slipCases}
+use Rattle.filerows.specs.Files.{headerCases, matrixCases, carryCases, ruleCases}
+use Rattle.runrows.specs.Runs.{refusedCases, doneCases}
+use Rattle.runrows.specs.Replays.{replayCases}
+use Rattle.askrows.specs.Judgements.{callerCases, roundCases, createCases, closingCases}
+use Rattle.askrows.specs.Needs.{needCases}
+use Rattle.askrows.specs.Trusted.{trustedCases}
+use Rattle.askrows.specs.Sheets.{sheetCases}
+use Rattle.carryrows.specs.Carrying.{metCases, carriedReplayCases, carriedJudgeCases, carriedQuestionCases}
+use Rattle.widerows.specs.Wide.{wideRunCases, wideQuestionCases, largestCases}
 
 abbrev pub parts : List (List Row)
 parts = slipCases ∷ headerCases ∷ matrixCases ∷ carryCases ∷ ruleCases ∷ refusedCases ∷ doneCases ∷ replayCases ∷ callerCases ∷ roundCases ∷ createCases ∷ closingCases ∷ needCases ∷ trustedCases ∷ sheetCases ∷ metCases ∷ carriedReplayCases ∷ carriedJudgeCases ∷ carriedQuestionCases ∷ wideRunCases ∷ wideQuestionCases ∷ largestCases ∷ []

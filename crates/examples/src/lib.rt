@@ -1,1 +1,1 @@
-// Document 01's cases, proved: specs/ and proofs/ alone.
+// The table of cases, proved: specs/ and proofs/ alone.

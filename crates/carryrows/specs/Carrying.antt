@@ -7,12 +7,9 @@ use Rattle.trace.specs.declared.Replay.the-variants.{NoLeak, Leak, Refused as R
 use Rattle.safety.specs.declared.Judgement.the-variants.{Safe, Unsafe}
 use Rattle.needs.specs.declared.Need.the-variants.{Held, Never}
 use Rattle.protection.specs.Command.{Call}
-use Rattle.examples.specs.Build.{anObject, aSubject, cellWith, ifIn, enter, delete, createSubject, ruleBytes, onName, onCell, fileCarrying, call, trace, text}
-use Rattle.examples.specs.Cases.{Case, runs, replays, prints, Row, row}
-use Rattle.examples.specs.Judgements.{judgeRefused, judgeAnswers, entering}
-use Rattle.examples.specs.Needs.{needRefused, needAnswers}
-use Rattle.examples.specs.Trusted.{partRefused, partAnswers}
-use Rattle.examples.specs.Sheets.{ask, entry, part, sheetLeaves, sheetFills}
+use Rattle.rows.specs.Build.{anObject, aSubject, cellWith, ifIn, enter, delete, createSubject, ruleBytes, onName, onCell, entering, fileCarrying, call, trace, text}
+use Rattle.rows.specs.Cases.{Case, runs, replays, prints, Row, row}
+use Rattle.rows.specs.Asked.{judgeRefused, judgeAnswers, needRefused, needAnswers, partRefused, partAnswers, ask, entry, part, sheetLeaves, sheetFills}
 
 -- ---- rule runs
 -- g 5, subject 0 and object 1, the byte of (0,1), and the carries of rights 0 to 3, 4 carrying none; right 0 is read, right 1 approve

@@ -115,6 +115,10 @@ onName o = ruleBytes 1 [] (o ∷ [])
 abbrev pub onCell : List ℕ → List ℕ
 onCell o = ruleBytes 2 [] (o ∷ [])
 
+-- (a): enter q into (a,a)
+abbrev pub entering : ℕ → List ℕ
+entering q = onName (enter q 0 0)
+
 -- the whole file: rights, kinds, cells, the set that each right carries, rules
 abbrev pub fileCarrying : ℕ → List KindAt → List CellAt → List ℕ → List (List ℕ) → List ℕ
 fileCarrying g ks cs carries rules = fileWith g (kindBytes ks ∷ cellBytes cs ∷ setsBytes carries ∷ rules)

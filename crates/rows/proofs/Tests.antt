@@ -36,9 +36,9 @@ use Rattle.parts.specs.Parts.{leftOut, trustedRefusal, partRefusal, partJudgeme
 use Rattle.sheets.specs.Sheets.{sheetLimit, sheetRefusal, entryOf, answers, partLength, partsFilled, sheetAfter, bufferAfter}
 use Rattle.sheets.specs.declared.Entry.{Entry}
 use Rattle.listing.specs.Listing.{printed, bufferBytes, listing}
-use Rattle.examples.specs.Build.{joined}
-use Rattle.examples.specs.Cases.{Case, checks, runs, replays, judges, judgesPart, needs, asks, prints, Holds, Row, AllHold}
-use Rattle.examples.proofs.Walk.{walkedRefusal, refusal-walked, walkedState, state-walked}
+use Rattle.rows.specs.Build.{joined}
+use Rattle.rows.specs.Cases.{Case, checks, runs, replays, judges, judgesPart, needs, asks, prints, Holds, Row, AllHold}
+use Rattle.rows.proofs.Walk.{walkedRefusal, refusal-walked, walkedState, state-walked}
 
 -- ---- equality, as a test
 abbrev sameBytes : List ℕ → List ℕ → Bool
@@ -301,7 +301,7 @@ abbrev pub failing : List Row → List String
 failing [] = []
 failing (w ∷ ws) = pick (test (w .case)) [] (w .name ∷ []) ++ failing ws
 
-none-failing : (ws : List Row) → failing ws ≡ [] → AllHold ws
+pub none-failing : (ws : List Row) → failing ws ≡ [] → AllHold ws
 none-failing [] e = tt
 none-failing (w ∷ ws) e = go (test (w .case)) (tested (w .case)) (none-failing ws) e
   where
@@ -314,10 +314,10 @@ hold-both : (vs ws : List Row) → AllHold vs → AllHold ws → AllHold (vs ++ 
 hold-both [] ws h k = k
 hold-both (v ∷ vs) ws (h, hs) k = (h, hold-both vs ws hs k)
 
-abbrev pub NoneFail : List (List Row) → Type 0
-NoneFail [] = Unit {0}
-NoneFail (p ∷ ps) = (failing p ≡ []) × NoneFail ps
+abbrev pub HoldEach : List (List Row) → Type 0
+HoldEach [] = Unit {0}
+HoldEach (p ∷ ps) = AllHold p × HoldEach ps
 
-pub none-fail : (ps : List (List Row)) → NoneFail ps → AllHold (joined ps)
-none-fail [] h = tt
-none-fail (p ∷ ps) (h, hs) = hold-both p (joined ps) (none-failing p h) (none-fail ps hs)
+pub hold-joined : (ps : List (List Row)) → HoldEach ps → AllHold (joined ps)
+hold-joined [] h = tt
+hold-joined (p ∷ ps) (h, hs) = hold-both p (joined ps) h (hold-joined ps hs)

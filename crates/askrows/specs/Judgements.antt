@@ -2,17 +2,10 @@
 use Prim.Native.Nat.{ℕ}
 use mathlib.Core.List.{List, [], _∷_}
 use Rattle.protection.specs.Command.{Call}
-use Rattle.safety.specs.declared.Judgement.{Judgement}
-use Rattle.safety.specs.declared.Judgement.the-variants.{Refused, Safe, Unsafe}
-use Rattle.examples.specs.Build.{anObject, aSubject, objectsBelow, cellWith, ifIn, enter, delete, createSubject, createObject, destroySubject, destroyObject, ruleBytes, onName, onCell, fileOf, call, buffer, holding, text}
-use Rattle.examples.specs.Cases.{Case, judges, prints, Row, row}
-
--- the judge of a file, a right and a buffer of n bytes is refused; or answers, and these are the steps
-abbrev pub judgeRefused : List ℕ → ℕ → ℕ → ℕ → Case
-judgeRefused f r n by = judges f r (buffer 0 n) (Refused by) (buffer 0 n)
-
-abbrev pub judgeAnswers : List ℕ → ℕ → ℕ → Judgement → List Call → Case
-judgeAnswers f r n answer steps = judges f r (buffer 0 n) answer (holding steps n)
+use Rattle.safety.specs.declared.Judgement.the-variants.{Safe, Unsafe}
+use Rattle.rows.specs.Build.{anObject, aSubject, objectsBelow, cellWith, ifIn, enter, delete, createSubject, createObject, destroySubject, destroyObject, ruleBytes, onName, onCell, entering, fileOf, call, text}
+use Rattle.rows.specs.Cases.{prints, Row, row}
+use Rattle.rows.specs.Asked.{judgeRefused, judgeAnswers}
 
 -- g 2; names 0 to 30; the last of two rules has two steps
 abbrev pub crowded : List ℕ
@@ -47,10 +40,7 @@ twoSubjects = fileOf 1 (aSubject 0 ∷ aSubject 1 ∷ []) (cellWith 0 0 1 ∷ []
 abbrev pub loneSubject : List (List ℕ) → List ℕ
 loneSubject rules = fileOf 2 (aSubject 0 ∷ []) [] rules
 
--- enter q into (a,a); the same if 1 in (a,a)
-abbrev pub entering : ℕ → List ℕ
-entering q = onName (enter q 0 0)
-
+-- if 1 in (a,a) enter q into (a,a)
 abbrev pub enteringIf : ℕ → List ℕ
 enteringIf q = ruleBytes 1 (ifIn 1 0 0 ∷ []) (enter q 0 0 ∷ [])
 

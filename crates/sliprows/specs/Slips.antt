@@ -2,8 +2,8 @@
 use Prim.Native.Nat.{ℕ}
 use mathlib.Core.List.{List, [], _∷_}
 use Rattle.safety.specs.declared.Judgement.the-variants.{Refused, Safe, Unsafe}
-use Rattle.examples.specs.Build.{anObject, aSubject, objectsBelow, cellWith, ifIn, enter, delete, createSubject, destroySubject, ruleBytes, fileOf, call, buffer, holding, text}
-use Rattle.examples.specs.Cases.{judges, prints, runs, Row, row}
+use Rattle.rows.specs.Build.{anObject, aSubject, objectsBelow, cellWith, ifIn, enter, delete, createSubject, destroySubject, ruleBytes, fileOf, call, buffer, holding, text}
+use Rattle.rows.specs.Cases.{judges, prints, runs, Row, row}
 
 -- P1: "g 2; 0, 1 subjects, 2 object; right 0 in (0,2). Rule 0 (a,b,c): if 0 in (a,c) enter 1 into (b,c)."
 abbrev pub file1 : List ℕ

@@ -3,8 +3,8 @@
 use Prim.Native.Nat.{ℕ}
 use mathlib.Core.List.{List, [], _∷_, _++_}
 use lib.ListN.{replicate}
-use Rattle.examples.specs.Build.{pair, fileWith, anObject, aSubject, CellAt, cellWith, ifIn, step, enter, delete, createSubject, createObject, destroySubject, destroyObject, ruleBytes, onName, onCell, fileCarrying, fileOf}
-use Rattle.examples.specs.Cases.{checks, Row, row}
+use Rattle.rows.specs.Build.{pair, fileWith, anObject, aSubject, CellAt, cellWith, ifIn, step, enter, delete, createSubject, createObject, destroySubject, destroyObject, ruleBytes, onName, onCell, fileCarrying, fileOf}
+use Rattle.rows.specs.Cases.{checks, Row, row}
 
 -- kinds, cells and carries of so many bytes, and no rule; each kind is 6, each carried set 44
 abbrev pub sections : ℕ → ℕ → ℕ → ℕ → List ℕ

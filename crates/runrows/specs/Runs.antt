@@ -2,8 +2,8 @@
 use Prim.Native.Nat.{ℕ}
 use mathlib.Core.List.{List, [], _∷_}
 use Rattle.protection.specs.Command.{Call}
-use Rattle.examples.specs.Build.{KindAt, anObject, aSubject, CellAt, cellWith, ifIn, enter, delete, createSubject, createObject, destroySubject, destroyObject, ruleBytes, onName, onCell, fileOf, call}
-use Rattle.examples.specs.Cases.{Case, runs, Row, row}
+use Rattle.rows.specs.Build.{KindAt, anObject, aSubject, CellAt, cellWith, ifIn, enter, delete, createSubject, createObject, destroySubject, destroyObject, ruleBytes, onName, onCell, fileOf, call}
+use Rattle.rows.specs.Cases.{Case, runs, Row, row}
 
 -- g 2; 0 and 1 subjects, 2 an object; right 0 in (0,2), right 1 in (1,0), both in (1,2)
 abbrev pub kinds : List KindAt

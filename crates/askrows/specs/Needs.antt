@@ -1,19 +1,11 @@
 -- What a press needs (document 02, C-14): 41, and the order of the refusals; held, and never.
 use Prim.Native.Nat.{ℕ, zero, suc}
 use mathlib.Core.List.{List, [], _∷_}
-use Rattle.protection.specs.Command.{Call}
-use Rattle.needs.specs.declared.Need.{Need}
-use Rattle.needs.specs.declared.Need.the-variants.{Refused, Held, Never}
-use Rattle.examples.specs.Build.{anObject, aSubject, objectsBelow, cellWith, enter, createObject, onName, onCell, fileOf, call, buffer, holding}
-use Rattle.examples.specs.Cases.{Case, needs, Row, row}
-use Rattle.examples.specs.Judgements.{crowded, full, twoSubjects, loneSubject, entering, lastName}
-
--- the need of a file, a list and a buffer of n bytes is refused; or is answered, and these are the steps
-abbrev pub needRefused : List ℕ → List ℕ → ℕ → ℕ → Case
-needRefused f l n by = needs f l (buffer 0 n) (Refused by) (buffer 0 n)
-
-abbrev pub needAnswers : List ℕ → List ℕ → ℕ → Need → List Call → Case
-needAnswers f l n answer steps = needs f l (buffer 0 n) answer (holding steps n)
+use Rattle.needs.specs.declared.Need.the-variants.{Held, Never}
+use Rattle.rows.specs.Build.{anObject, aSubject, objectsBelow, cellWith, enter, createObject, onName, onCell, entering, fileOf, call}
+use Rattle.rows.specs.Cases.{Row, row}
+use Rattle.rows.specs.Asked.{needRefused, needAnswers}
+use Rattle.askrows.specs.Judgements.{crowded, full, twoSubjects, loneSubject, lastName}
 
 -- right 0 in (0,0), so many times
 abbrev pub cellTimes : ℕ → List ℕ

@@ -1,34 +1,17 @@
 -- A sheet of questions (document 02, C-17): 43, and each entry with the answer and the part that a call of its own would give.
-use Prim.Native.Nat.{ℕ, zero, suc, _+_, _*_}
+use Prim.Native.Nat.{ℕ, zero, suc}
 use mathlib.Core.List.{List, [], _∷_, _++_}
-use lib.ListN.{length}
 use Rattle.protection.specs.Command.{Call}
 use Rattle.sheets.specs.declared.Entry.{Entry}
-use Rattle.examples.specs.Build.{fileOf, call, trace, buffer}
-use Rattle.examples.specs.Cases.{Case, asks, Row, row}
-use Rattle.examples.specs.Judgements.{loneSubject, entering}
+use Rattle.rows.specs.Build.{entering, fileOf, call}
+use Rattle.rows.specs.Cases.{Row, row}
+use Rattle.rows.specs.Asked.{ask, entry, part, sheetLeaves, sheetFills}
+use Rattle.askrows.specs.Judgements.{loneSubject}
 
--- a right that is asked; an entry with its answer
-abbrev pub ask : ℕ → Entry
-ask r = record { right = r; verdict = 0; count = 0 }
-
-abbrev pub entry : ℕ → ℕ → ℕ → Entry
-entry r verdict count = record { right = r; verdict = verdict; count = count }
-
+-- a right that is asked so many times
 abbrev pub askTimes : ℕ → ℕ → List Entry
 askTimes zero r = []
 askTimes (suc n) r = ask r ∷ askTimes n r
-
--- the bytes of the buffer from place j on to place n, with the steps at their front
-abbrev pub part : ℕ → ℕ → List Call → List ℕ
-part j n steps = trace steps ++ buffer (j + 5 * length steps) n
-
--- a sheet that changes nothing of the buffer; one that is answered
-abbrev pub sheetLeaves : List ℕ → List Entry → ℕ → ℕ → List Entry → Case
-sheetLeaves f s n code s' = asks f s (buffer 0 n) code s' (buffer 0 n)
-
-abbrev pub sheetFills : List ℕ → List Entry → ℕ → List Entry → List ℕ → Case
-sheetFills f s n s' b' = asks f s (buffer 0 n) 0 s' b'
 
 -- g 2, subject 0, no rights. Rule (a): enter 1 into (a,a). A part of 5 × (2 × 2 × 3 + 4) bytes is long enough.
 abbrev pub oneEnter : List ℕ

@@ -5,8 +5,8 @@ use mathlib.Core.List.{List, [], _∷_, _++_}
 use Rattle.protection.specs.Command.{Call}
 use Rattle.trace.specs.declared.Replay.{Replay}
 use Rattle.trace.specs.declared.Replay.the-variants.{NoLeak, Leak, Refused}
-use Rattle.examples.specs.Build.{anObject, aSubject, objectsBelow, cellWith, ifIn, enter, delete, createSubject, ruleBytes, onName, onCell, fileOf, call, trace}
-use Rattle.examples.specs.Cases.{Case, replays, Row, row}
+use Rattle.rows.specs.Build.{anObject, aSubject, objectsBelow, cellWith, ifIn, enter, delete, createSubject, ruleBytes, onName, onCell, fileOf, call, trace}
+use Rattle.rows.specs.Cases.{Case, replays, Row, row}
 
 -- g 2; 0 and 1 subjects, 2 an object; right 0 in (0,2)
 abbrev pub fileWithRules : List (List ℕ) → List ℕ

@@ -1,19 +1,11 @@
 -- Trusted hands left out (document 02, C-15): 42, and the order of the refusals; the part that stays, and the names that it creates.
 use Prim.Native.Nat.{ℕ}
 use mathlib.Core.List.{List, [], _∷_}
-use Rattle.protection.specs.Command.{Call}
-use Rattle.safety.specs.declared.Judgement.{Judgement}
-use Rattle.safety.specs.declared.Judgement.the-variants.{Refused, Safe, Unsafe}
-use Rattle.examples.specs.Build.{CellAt, anObject, aSubject, objectsBelow, cellWith, ifIn, enter, delete, createSubject, createObject, ruleBytes, onName, onCell, fileOf, call, buffer, holding}
-use Rattle.examples.specs.Cases.{Case, judgesPart, Row, row}
-use Rattle.examples.specs.Judgements.{crowded, full, twoSubjects, lastName, gap}
-
--- the judge of a file, a right and a buffer of n bytes without the names of a list is refused; or answers, and these are the steps
-abbrev pub partRefused : List ℕ → ℕ → List ℕ → ℕ → ℕ → Case
-partRefused f r l n by = judgesPart f r l (buffer 0 n) (Refused by) (buffer 0 n)
-
-abbrev pub partAnswers : List ℕ → ℕ → List ℕ → ℕ → Judgement → List Call → Case
-partAnswers f r l n answer steps = judgesPart f r l (buffer 0 n) answer (holding steps n)
+use Rattle.safety.specs.declared.Judgement.the-variants.{Safe, Unsafe}
+use Rattle.rows.specs.Build.{CellAt, anObject, aSubject, objectsBelow, cellWith, ifIn, enter, delete, createSubject, createObject, ruleBytes, onName, onCell, fileOf, call}
+use Rattle.rows.specs.Cases.{Row, row}
+use Rattle.rows.specs.Asked.{partRefused, partAnswers}
+use Rattle.askrows.specs.Judgements.{crowded, full, twoSubjects, lastName, gap}
 
 -- g 2, subjects 0, the office, and 1, and these cells. Rule (a,b): if 1 in (a,b) enter 0 into (b,b).
 abbrev pub office : List CellAt → List ℕ

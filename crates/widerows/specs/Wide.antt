@@ -5,12 +5,9 @@ use lib.ListN.{replicate}
 use Rattle.trace.specs.declared.Replay.the-variants.{NoLeak, Leak}
 use Rattle.safety.specs.declared.Judgement.the-variants.{Safe, Unsafe}
 use Rattle.needs.specs.declared.Need.the-variants.{Held, Never}
-use Rattle.examples.specs.Build.{KindAt, anObject, aSubject, subjectsBelow, CellAt, cellWith, ifIn, enter, delete, destroySubject, destroyObject, ruleBytes, onName, onCell, fileCarrying, fileOf, call, trace, text}
-use Rattle.examples.specs.Cases.{Case, runs, replays, prints, Row, row}
-use Rattle.examples.specs.Judgements.{judgeRefused, judgeAnswers, entering}
-use Rattle.examples.specs.Needs.{needRefused, needAnswers}
-use Rattle.examples.specs.Trusted.{partAnswers}
-use Rattle.examples.specs.Sheets.{ask, entry, part, sheetFills}
+use Rattle.rows.specs.Build.{KindAt, anObject, aSubject, subjectsBelow, CellAt, cellWith, ifIn, enter, delete, destroySubject, destroyObject, ruleBytes, onName, onCell, entering, fileCarrying, fileOf, call, trace, text}
+use Rattle.rows.specs.Cases.{Case, runs, replays, prints, Row, row}
+use Rattle.rows.specs.Asked.{judgeRefused, judgeAnswers, needRefused, needAnswers, partAnswers, ask, entry, part, sheetFills}
 
 -- ---- rule runs
 -- g 12; 0 and 1 subjects, 2 an object; rights 0 and 7 in (0,2), 8 and 11 in (1,0), 0, 7, 8 and 11 in (1,2)

@@ -1,0 +1,4 @@
+pub mod Judgements
+pub mod Needs
+pub mod Trusted
+pub mod Sheets

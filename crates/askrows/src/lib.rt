@@ -1,0 +1,1 @@
+// Cases of judgements, needs, parts and sheets, proved: specs/ and proofs/ alone.

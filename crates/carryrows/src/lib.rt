@@ -1,0 +1,1 @@
+// Cases of rights that carry others, proved: specs/ and proofs/ alone.

@@ -1,0 +1,1 @@
+// Cases of files and their refusals, proved: specs/ and proofs/ alone.

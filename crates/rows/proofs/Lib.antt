@@ -1,0 +1,4 @@
+pub mod Walk
+pub mod Tests
+pub mod Computed
+pub mod Written

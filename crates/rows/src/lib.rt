@@ -1,0 +1,1 @@
+// A row of the table of cases: specs/ and proofs/ alone.

@@ -1,0 +1,1 @@
+// Cases of rule runs and replays, proved: specs/ and proofs/ alone.

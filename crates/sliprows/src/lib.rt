@@ -1,0 +1,1 @@
+// Document 01's own cases, proved: specs/ and proofs/ alone.

@@ -1,0 +1,1 @@
+// Cases of twelve rights, proved: specs/ and proofs/ alone.
