@@ -1,5 +1,5 @@
 -- The closing search at one cell: the loop over the commands, on the matrix as it is and on the matrix without the right. Assumes nothing.
-use Prim.Native.Nat.{ℕ, zero, suc, _+_, _-_, _*_, _≤_, _<_}
+use Prim.Native.Nat.{ℕ, zero, suc, _+_, _-_, _*_, _/_, _%_, _≤_, _<_}
 use mathlib.Core.Path.{_≡_, refl, sym, ap, ap₂, _∙_, subst}
 use mathlib.Core.Bool.{Bool, true, false, not, _&&_}
 use mathlib.Core.List.{List, []}
@@ -18,7 +18,7 @@ use Rattle.protection.specs.Limits.{names, rights}
 use Rattle.protection.specs.State.{State}
 use Rattle.protection.specs.Command.{Command as ModelCommand, System, Call, actuals}
 use Rattle.protection.specs.Execution.{takeOut}
-use Rattle.protection.specs.Judge.{firstIn, namesAt, choices, operationIn, placesOf, fourOf, callAt, allowed, deletesAt, entersAt, takes, returns, firstCall, both, isEmpty}
+use Rattle.protection.specs.Judge.{firstIn, namesAt, choices, operationIn, placesOf, fourOf, callAt, allowed, firstCall, both, isEmpty}
 use Rattle.matrix.specs.Matrices.{stateOf, deleted}
 use Rattle.matrix.specs.declared.Matrix.{Matrix}
 use Rattle.masks.specs.First.{first}
@@ -28,39 +28,41 @@ use Rattle.masks.proofs.First.{Least, least}
 use Rattle.search.specs.Narrowing.{Says}
 use Rattle.commands.specs.Contents.{missing, meaning}
 use Rattle.commands.specs.declared.Command.{Command}
-use Rattle.queries.specs.Useful.{doable, namesOfPlace, touchesAt, Tried}
+use Rattle.queries.specs.Useful.{doable, namesOfPlace, touchedBy, touchesAt, Tried}
 use Rattle.queries.specs.Sought.{tablesOf, Seen, SeenBySome, FirstTouching}
+use Rattle.queries.specs.declared.Touch.{Touch}
 use Rattle.queries.proofs.Picking.{first-same, gone-state, gone-seen}
 use Rattle.policy.specs.Contents.{systemOf}
 use Rattle.policy.specs.declared.Policy.{Policy}
 use Rattle.visits.specs.Engine.{commandNumber}
 use Rattle.visits.proofs.Asked.{policy-carried, command-found}
 use Rattle.visits.proofs.Visits.{allowed-is}
-use Rattle.closing.specs.Asks.{AskedBy, LackingAt, leftIn}
-use Rattle.closing.specs.Closing.{foundCall, pairOf, ConcernedBy, Covers, touching, firstTouching, placeTouching, touchingIn, TouchingFound, bothAt, Closing}
+use Rattle.closing.specs.Asks.{LackingAt, leftIn}
+use Rattle.closing.specs.Closing.{foundCall, pairOf, Covers, touching, goneFrom, masksWithout, firstTouching, placeTouching, touchingIn, TouchingFound, bothAt, Closing, SoughtIn}
 use Rattle.closing.specs.declared.Found.{Found}
 use Rattle.closing.specs.declared.Pair.{Pair}
+use Rattle.closing.specs.declared.Sought.{Sought}
 use Rattle.closing.proofs.PassedBy.{command-tried}
 use Rattle.closing.proofs.Lacking.{left-covers, out-lacks}
 
 -- ---- for `call_of`
-module _ (m : Matrix) (t : Tables) (r s o n i : ℕ) (enters : Bool) (C : ModelCommand) (at : ℕ) (found : FirstTouching enters m t r s o C n at) (size : ℕ) (size-is : size ≡ placesOf C n) where
-  here : (S : System) → Seen S m t → _≡_ {A = Option Call} (pick (ltb at size) (some (callAt i C n at)) none) (touchingIn enters S (stateOf m) r s o n i C)
+module _ (m : Matrix) (t : Tables) (w : Touch) (n i : ℕ) (C : ModelCommand) (at : ℕ) (found : FirstTouching C n m t w at) (size : ℕ) (size-is : size ≡ placesOf C n) where
+  here : (S : System) → Seen S m t → _≡_ {A = Option Call} (pick (ltb at size) (some (callAt i C n at)) none) (touchingIn S (stateOf m) w n i C)
   unfolding touchingIn placeTouching
   here S z = ap₂ (λ (a k : ℕ). pick (ltb a k) (some (callAt i C n a)) none) (found .of S z) size-is
 
-  pub call-found : at < size → (a : List ℕ) → a ≡ namesAt (choices C n) at → (x : Found) → x ≡ record { found = true; rule = i; actuals = a } → TouchingFound enters m t r s o n i C x
+  pub call-found : at < size → (a : List ℕ) → a ≡ namesAt (choices C n) at → (x : Found) → x ≡ record { found = true; rule = i; actuals = a } → TouchingFound i C n m t w x
   call-found l a d x f = record {
     of = λ S z. ap foundCall f ∙ ap (λ (l : List ℕ). some (fourOf i l)) d ∙ ap (λ (b : Bool). pick b (some (callAt i C n at)) none) (sym (lt-ltb at size l)) ∙ here S z;
   }
 
-  pub call-missing : size ≤ at → (x : Found) → foundCall x ≡ none → TouchingFound enters m t r s o n i C x
+  pub call-missing : size ≤ at → (x : Found) → foundCall x ≡ none → TouchingFound i C n m t w x
   call-missing l x f = record { of = λ S z. f ∙ ap (λ (b : Bool). pick b (some (callAt i C n at)) none) (sym (le-ltb at size l)) ∙ here S z }
 
 -- ---- for `masks_without`
-pub masks-left : (carried cells row col : List ℕ) (right s o rest : ℕ) → rest ≡ delete (getD cells (names * s + o) 0) right → (x : Tables) → x ≡ replaced carried (tablesOf row col) s o rest
-    → x ≡ replaced carried (tablesOf row col) s o (delete (getD cells (names * s + o) 0) right)
-masks-left carried cells row col right s o rest e x d = d ∙ ap (replaced carried (tablesOf row col) s o) e
+pub masks-left : (carried cells row col : List ℕ) (w : Touch) (rest : ℕ) → rest ≡ delete (getD cells (names * w .subject + w .object) 0) (w .right) → (x : Tables)
+    → x ≡ replaced carried (tablesOf row col) (w .subject) (w .object) rest → x ≡ masksWithout carried w cells (tablesOf row col)
+masks-left carried cells row col w rest e x d = d ∙ ap (replaced carried (tablesOf row col) (w .subject) (w .object)) e
 
 -- ---- the loop over the commands
 -- the first of two that is there
@@ -81,20 +83,19 @@ or-found : (b : Bool) (x : Call) (y : Option Call) → b ≡ true → _≡_ {A =
 unfolding orElse
 or-found b x y e = rw e
 
-touching-is : (enters : Bool) (S : System) (m : State) (r s o i : ℕ) (C : ModelCommand) → getElem? (S .commands) i ≡ some C → (n q : ℕ)
-    → touchesAt enters S m r s o C n q ≡ touching enters S m r s o C (callAt i C n q)
-touching-is enters S m r s o i C found n q = go (pick enters (entersAt r s o (namesOfPlace C n q) (operationIn C)) (deletesAt r s o (namesOfPlace C n q) (operationIn C)))
+touching-is : (S : System) (m : State) (w : Touch) (i : ℕ) (C : ModelCommand) → getElem? (S .commands) i ≡ some C → (n q : ℕ) → touchesAt S m w C n q ≡ touching S m w C (callAt i C n q)
+touching-is S m w i C found n q = go (touchedBy w (namesOfPlace C n q) (operationIn C))
   where
     go : (b : Bool) → _≡_ {A = Bool} (elim b [ true ↦ doable S C m (namesOfPlace C n q) | false ↦ false ]) (elim b [ true ↦ allowed S m (callAt i C n q) | false ↦ false ])
     go true = sym (allowed-is S i C found m n q)
     go false = refl
 
-module _ (p : Policy) (m : State) (n r s o : ℕ) (enters : Bool) where
+module _ (p : Policy) (m : State) (n : ℕ) (w : Touch) where
   abbrev S : System
   S = systemOf p
 
   abbrev P : ModelCommand → Call → Bool
-  P = touching enters S m r s o
+  P = touching S m w
 
   -- what is found from command i on
   pub from : ℕ → Option Call
@@ -102,9 +103,9 @@ module _ (p : Policy) (m : State) (n r s o : ℕ) (enters : Bool) where
 
   -- what is found in command i
   abbrev found : ℕ → Option Call
-  found i = touchingIn enters S m r s o n i (commandNumber p i)
+  found i = touchingIn S m w n i (commandNumber p i)
 
-  from-start : from 0 ≡ firstTouching enters S m r s o n
+  from-start : from 0 ≡ firstTouching S m w n
   unfolding from firstTouching
   from-start = ap (λ (k : ℕ). firstCall P n 0 (tabulate (commandNumber p) k 0)) (sub-zero (p .commands))
 
@@ -128,13 +129,13 @@ module _ (p : Policy) (m : State) (n r s o : ℕ) (enters : Bool) where
       at = firstIn (λ q. P C (callAt i C n q)) (placesOf C n) 0
 
       place : ℕ
-      place = firstIn (touchesAt enters S m r s o C n) (placesOf C n) 0
+      place = firstIn (touchesAt S m w C n) (placesOf C n) 0
 
       later : Option Call
       later = firstCall P n (i + 1) (tabulate (commandNumber p) (p .commands - (i + 1)) (i + 1))
 
       at-is : place ≡ at
-      at-is = first-same (touchesAt enters S m r s o C n) (λ q. P C (callAt i C n q)) (touching-is enters S m r s o i C (command-found p i l) n) (placesOf C n) 0
+      at-is = first-same (touchesAt S m w C n) (λ q. P C (callAt i C n q)) (touching-is S m w i C (command-found p i l) n) (placesOf C n) 0
 
   from-next : (i : ℕ) → (i < p .commands → found i ≡ none) → from i ≡ from (i + 1)
   from-next i h = go (decLt i (p .commands))
@@ -149,7 +150,7 @@ module _ (p : Policy) (m : State) (n r s o : ℕ) (enters : Bool) where
       let z : i + 1 + d ≡ i + suc d = omega arith in
       from-next i (h i (omega arith) (omega arith)) ∙ skip d (i + 1) (λ k a b. h k (omega arith) (omega arith)) ∙ ap from z
 
-  module _ (which : ℕ) (W : Covers p enters m r s o n which) where
+  module _ (which : ℕ) (W : Covers p n w m which) where
     -- to the next command of the mask
     jumped : (i j : ℕ) → i ≤ names → j ≡ first (has which) i names → (j ≤ names) × (i ≤ j) × (from i ≡ from j)
     jumped i j l e = (
@@ -163,32 +164,29 @@ module _ (p : Policy) (m : State) (n r s o : ℕ) (enters : Bool) where
         L = subst (Least (has which) i names) (sym e) (least (has which) i names l)
 
     -- no command at all
-    pub none-covered : which ≡ 0 → firstTouching enters S m r s o n ≡ none
-    none-covered e = sym from-start ∙ skip (p .commands) 0 (λ k a b h. W .none-else k h (ap (λ (w : ℕ). has w k) e ∙ has-none k)) ∙ from-end (0 + p .commands) (omega arith)
+    pub none-covered : which ≡ 0 → firstTouching S m w n ≡ none
+    none-covered e = sym from-start ∙ skip (p .commands) 0 (λ k a b h. W .none-else k h (ap (λ (z : ℕ). has z k) e ∙ has-none k)) ∙ from-end (0 + p .commands) (omega arith)
 
-module _ (p : Policy) (m : Matrix) (t : Tables) (n r s o : ℕ) (enters : Bool) where
+module _ (p : Policy) (m : Matrix) (t : Tables) (n : ℕ) (w : Touch) where
   -- what is left to look through, from command i on, is all
   pub record Looking (which count i : ℕ) : Type 0 where
-    pub asked : Closing p r n s o m t
-    pub by : Covers p enters (stateOf m) r s o n which
+    pub asked : Closing p n w m t
+    pub by : Covers p n w (stateOf m) which
     pub number : count ≡ p .commands
     pub most : i ≤ names
-    pub rest : from p (stateOf m) n r s o enters i ≡ firstTouching enters (systemOf p) (stateOf m) r s o n
+    pub rest : from p (stateOf m) n w i ≡ firstTouching (systemOf p) (stateOf m) w n
 
-  pub looking-start : Closing p r n s o m t → (which : ℕ) → Covers p enters (stateOf m) r s o n which → (count : ℕ) → count ≡ p .commands → (i : ℕ) → i ≡ first (has which) 0 names → Looking which count i
+  pub looking-start : Closing p n w m t → (which : ℕ) → Covers p n w (stateOf m) which → (count : ℕ) → count ≡ p .commands → (i : ℕ) → i ≡ first (has which) 0 names → Looking which count i
   looking-start K which W count e i f =
-      let j = jumped p (stateOf m) n r s o enters which W 0 i (omega arith) f in
-      record { asked = K; by = W; number = e; most = j .0; rest = sym (j .2) ∙ from-start p (stateOf m) n r s o enters }
+      let j = jumped p (stateOf m) n w which W 0 i (omega arith) f in
+      record { asked = K; by = W; number = e; most = j .0; rest = sym (j .2) ∙ from-start p (stateOf m) n w }
 
   module _ (which count i : ℕ) (K : Looking which count i) where
     pub looking-seen : SeenBySome m t
     looking-seen = record { system = systemOf p; seen = K .asked .closable .seen }
 
-    pub looking-right : r < rights
-    looking-right = omega (arith, K .asked .closable .right, K .asked .closable .fits .few-rights)
-
-    pub looking-end : count ≤ i → (x : Found) → foundCall x ≡ none → foundCall x ≡ firstTouching enters (systemOf p) (stateOf m) r s o n
-    looking-end l x e = e ∙ sym (from-end p (stateOf m) n r s o enters i (omega (arith, K .number))) ∙ K .rest
+    pub looking-end : count ≤ i → (x : Found) → foundCall x ≡ none → foundCall x ≡ firstTouching (systemOf p) (stateOf m) w n
+    looking-end l x e = e ∙ sym (from-end p (stateOf m) n w i (omega (arith, K .number))) ∙ K .rest
 
     module _ (l : i < count) where
       pub looking-number : i < 32
@@ -196,55 +194,63 @@ module _ (p : Policy) (m : Matrix) (t : Tables) (n r s o : ℕ) (enters : Bool) 
 
       pub looking-less : (i' : ℕ) → i' ≡ first (has which) (i + 1) names → count - i' < count - i
       looking-less i' g =
-          let j = jumped p (stateOf m) n r s o enters which (K .by) (i + 1) i' (omega (arith, looking-number)) g in
+          let j = jumped p (stateOf m) n w which (K .by) (i + 1) i' (omega (arith, looking-number)) g in
           omega (arith, j .1)
 
       module _ (c : Command) (e : c ≡ getD (p .command) i missing) where
         pub looking-tried : Tried c n
         looking-tried = command-tried p (K .asked .closable .fits) (K .asked .closable .single) n (K .asked .name) i (rw (K .number) at l) c e
 
-        module _ (x : Found) (d : TouchingFound enters m t r s o n i (meaning c) x) where
-          this : foundCall x ≡ found p (stateOf m) n r s o enters i
-          this = d .of (systemOf p) (K .asked .closable .seen) ∙ ap (λ (w : Command). touchingIn enters (systemOf p) (stateOf m) r s o n i (meaning w)) e
+        module _ (x : Found) (d : TouchingFound i (meaning c) n m t w x) where
+          this : foundCall x ≡ found p (stateOf m) n w i
+          this = d .of (systemOf p) (K .asked .closable .seen) ∙ ap (λ (d : Command). touchingIn (systemOf p) (stateOf m) w n i (meaning d)) e
 
-          onward : from p (stateOf m) n r s o enters i ≡ orElse (foundCall x) (from p (stateOf m) n r s o enters (i + 1))
-          onward = from-more p (stateOf m) n r s o enters i (rw (K .number) at l) ∙ ap (λ (w : Option Call). orElse w (from p (stateOf m) n r s o enters (i + 1))) (sym this)
+          onward : from p (stateOf m) n w i ≡ orElse (foundCall x) (from p (stateOf m) n w (i + 1))
+          onward = from-more p (stateOf m) n w i (rw (K .number) at l) ∙ ap (λ (y : Option Call). orElse y (from p (stateOf m) n w (i + 1))) (sym this)
 
-          pub looking-found : x .found ≡ true → foundCall x ≡ firstTouching enters (systemOf p) (stateOf m) r s o n
-          looking-found f = or-found (x .found) (fourOf (x .rule) (x .actuals)) (from p (stateOf m) n r s o enters (i + 1)) f ∙ sym onward ∙ K .rest
+          pub looking-found : x .found ≡ true → foundCall x ≡ firstTouching (systemOf p) (stateOf m) w n
+          looking-found f = or-found (x .found) (fourOf (x .rule) (x .actuals)) (from p (stateOf m) n w (i + 1)) f ∙ sym onward ∙ K .rest
 
           pub looking-more : x .found ≡ false → (i' : ℕ) → i' ≡ first (has which) (i + 1) names → Looking which count i'
           looking-more f i' g =
-              let j = jumped p (stateOf m) n r s o enters which (K .by) (i + 1) i' (omega (arith, looking-number)) g in
+              let j = jumped p (stateOf m) n w which (K .by) (i + 1) i' (omega (arith, looking-number)) g in
               let u : foundCall x ≡ none = rw f in
               record {
                 asked = K .asked;
                 by = K .by;
                 number = K .number;
                 most = j .0;
-                rest = sym (j .2) ∙ sym (or-none (foundCall x) (from p (stateOf m) n r s o enters (i + 1)) u) ∙ sym onward ∙ K .rest;
+                rest = sym (j .2) ∙ sym (or-none (foundCall x) (from p (stateOf m) n w (i + 1)) u) ∙ sym onward ∙ K .rest;
               }
 
 pub both-none : (x : Option Call) → both x none ≡ []
 both-none none = refl
 both-none (some x) = refl
 
--- ---- one cell
-module _ (p : Policy) (m : Matrix) (t : Tables) (n r s o : ℕ) (K : Closing p r n s o m t) where
-  pub cell-right : r < rights
-  cell-right = omega (arith, K .closable .right, K .closable .fits .few-rights)
+-- ---- on the matrix without the right
+module _ (p : Policy) (m : Matrix) (t : Tables) (n : ℕ) (w : Touch) (K : Closing p n w m t) where
+  abbrev r : ℕ
+  r = w .right
 
-  -- on the matrix without the right
-  module _ (gone : Matrix) (g : gone ≡ deleted m r s o) (without : Tables) (w : without ≡ replaced (p .carried) t s o (delete (getD (m .cells) (names * s + o) 0) r)) where
-    lost : stateOf gone ≡ takeOut (stateOf m) r s o
-    lost = gone-state (systemOf p) (p .carried) (policy-carried p (K .closable .fits)) m t (K .closable .seen) r s o cell-right (K .row) (K .column) gone g
+  abbrev s : ℕ
+  s = w .subject
 
-    pub closing-gone : Closing p r n s o gone without
-    closing-gone = record {
+  abbrev o : ℕ
+  o = w .object
+
+  pub step-right : r < rights
+  step-right = omega (arith, K .closable .right, K .closable .fits .few-rights)
+
+  module _ (gone : Matrix) (g : gone ≡ deleted m r s o) where
+    lost : stateOf gone ≡ goneFrom w (stateOf m)
+    lost = gone-state (systemOf p) (p .carried) (policy-carried p (K .closable .fits)) m t (K .closable .seen) r s o step-right (K .row) (K .column) gone g
+
+    pub closing-gone : (without : Tables) → without ≡ masksWithout (p .carried) w (m .cells) t → Closing p n w gone without
+    closing-gone without e = record {
       closable = record {
         fits = K .closable .fits;
         single = K .closable .single;
-        seen = gone-seen (systemOf p) (p .carried) (policy-carried p (K .closable .fits)) m t (K .closable .seen) r s o cell-right (K .row) (K .column) gone g without w;
+        seen = gone-seen (systemOf p) (p .carried) (policy-carried p (K .closable .fits)) m t (K .closable .seen) r s o step-right (K .row) (K .column) gone g without e;
         right = K .closable .right;
       };
       name = K .name;
@@ -252,34 +258,50 @@ module _ (p : Policy) (m : Matrix) (t : Tables) (n r s o : ℕ) (K : Closing p r
       column = K .column;
     }
 
-    pub covers-gone : (which : ℕ) → Covers p true (takeOut (stateOf m) r s o) r s o n which → Covers p true (stateOf gone) r s o n which
-    covers-gone which W = subst (λ (z : State). Covers p true z r s o n which) (sym lost) W
+    pub covers-gone : (which : ℕ) → Covers p n w (goneFrom w (stateOf m)) which → Covers p n w (stateOf gone) which
+    covers-gone which W = subst (λ (z : State). Covers p n w z which) (sym lost) W
 
-    pub returned-gone : (x : Found) → foundCall x ≡ firstTouching true (systemOf p) (stateOf gone) r s o n → foundCall x ≡ firstTouching true (systemOf p) (takeOut (stateOf m) r s o) r s o n
-    returned-gone x e = e ∙ ap (λ (z : State). firstTouching true (systemOf p) z r s o n) lost
+    pub returned-gone : (x : Found) → foundCall x ≡ firstTouching (systemOf p) (stateOf gone) w n → foundCall x ≡ firstTouching (systemOf p) (goneFrom w (stateOf m)) w n
+    returned-gone x d = d ∙ ap (λ (z : State). firstTouching (systemOf p) z w n) lost
+
+-- ---- one cell
+module _ (p : Policy) (w : Sought) (asks : List ℕ) (m : Matrix) (t : Tables) (K : SoughtIn p w asks m t) (c : ℕ) (l : c < names * names) where
+  -- the two steps there
+  abbrev stepAt : Bool → Touch
+  stepAt enters = record { right = w .right; subject = c / names; object = c % names; enters = enters }
+
+  pub cell-asked : (enters : Bool) → Closing p (w .name) (stepAt enters) m t
+  cell-asked enters = record { closable = K .closable; name = K .name; row = omega arith; column = omega arith }
+
+  abbrev st : State
+  st = stateOf m
+
+  abbrev less : State
+  less = takeOut st (w .right) (c / names) (c % names)
 
   -- the commands that may have a call at the cell
-  module _ (asks : List ℕ) (A : AskedBy p asks) (lacking : ℕ) (L : LackingAt asks (p .carriers) (m .cells) s o lacking) (which left : ℕ) (E : Says left (leftIn which lacking)) where
-    pub covers-taken : ConcernedBy p false r which → Covers p false (stateOf m) r s o n left
-    covers-taken W = left-covers p (K .closable .fits) (K .closable .single) n (K .name) m (stateOf m) (λ u v q e. e) s o asks A lacking L false r which left W E
+  module _ (lacking : ℕ) (L : LackingAt asks (p .carriers) (m .cells) (c / names) (c % names) lacking) (left : ℕ) where
+    pub covers-taken : Says left (leftIn (w .taking) lacking) → Covers p (w .name) (stepAt false) st left
+    covers-taken E = left-covers p (K .closable .fits) (K .closable .single) (w .name) (K .name) m st (λ u v q e. e) asks (K .asked-by) (stepAt false) lacking L (w .taking) left (K .taken-by) E
 
-    pub covers-returned : ConcernedBy p true r which → Covers p true (takeOut (stateOf m) r s o) r s o n left
-    covers-returned W = left-covers p (K .closable .fits) (K .closable .single) n (K .name) m (takeOut (stateOf m) r s o) (λ u v q e. out-lacks (systemOf p) (stateOf m) r s o u v q e) s o asks A lacking L true r which left W E
+    module _ (E : Says left (leftIn (w .returning) lacking)) where
+      pub covers-returned : Covers p (w .name) (stepAt true) less left
+      covers-returned = left-covers p (K .closable .fits) (K .closable .single) (w .name) (K .name) m less (λ u v q e. out-lacks (systemOf p) st (w .right) (c / names) (c % names) u v q e) asks (K .asked-by)
+          (stepAt true) lacking L (w .returning) left (K .returned-by) E
 
-    pub cell-unreturned : ConcernedBy p true r which → left ≡ 0 → (z : Pair) → pairOf z ≡ [] → pairOf z ≡ bothAt (systemOf p) r n (stateOf m) s o
-    unfolding bothAt firstTouching
-    cell-unreturned W e z d = d ∙ sym (ap (both (firstCall (takes (systemOf p) (stateOf m) r s o) n 0 (systemOf p .commands)))
-        (none-covered p (takeOut (stateOf m) r s o) n r s o true left (covers-returned W) e)
-        ∙ both-none (firstCall (takes (systemOf p) (stateOf m) r s o) n 0 (systemOf p .commands)))
+      pub cell-unreturned : left ≡ 0 → (z : Pair) → pairOf z ≡ [] → pairOf z ≡ bothAt (systemOf p) w st c
+      unfolding bothAt firstTouching
+      cell-unreturned e z d = d ∙ sym (ap (both (firstTouching (systemOf p) st (stepAt false) (w .name))) (none-covered p less (w .name) (stepAt true) left covers-returned e)
+          ∙ both-none (firstTouching (systemOf p) st (stepAt false) (w .name)))
 
-  module _ (x : Found) (u : foundCall x ≡ firstTouching false (systemOf p) (stateOf m) r s o n) where
-    pub cell-untaken : not (x .found) ≡ true → (z : Pair) → pairOf z ≡ [] → pairOf z ≡ bothAt (systemOf p) r n (stateOf m) s o
+  module _ (x : Found) (u : foundCall x ≡ firstTouching (systemOf p) st (stepAt false) (w .name)) where
+    pub cell-untaken : not (x .found) ≡ true → (z : Pair) → pairOf z ≡ [] → pairOf z ≡ bothAt (systemOf p) w st c
     unfolding bothAt firstTouching
     cell-untaken f z e =
-        let w : none ≡ foundCall x = rw (not-true (x .found) f) in
-        e ∙ ap (λ (c : Option Call). both c (firstCall (returns (systemOf p) (stateOf m) r s o) n 0 (systemOf p .commands))) (w ∙ u)
+        let d : none ≡ foundCall x = rw (not-true (x .found) f) in
+        e ∙ ap (λ (y : Option Call). both y (firstTouching (systemOf p) less (stepAt true) (w .name))) (d ∙ u)
 
-    pub cell-both : (y : Found) → foundCall y ≡ firstTouching true (systemOf p) (takeOut (stateOf m) r s o) r s o n → (z : Pair) → z ≡ record { taken = x; returned = y } → pairOf z ≡ bothAt (systemOf p) r n (stateOf m) s o
+    pub cell-both : (y : Found) → foundCall y ≡ firstTouching (systemOf p) less (stepAt true) (w .name) → (z : Pair) → z ≡ record { taken = x; returned = y } → pairOf z ≡ bothAt (systemOf p) w st c
     unfolding bothAt firstTouching
     cell-both y v z d = ap pairOf d ∙ ap₂ both u v
 
