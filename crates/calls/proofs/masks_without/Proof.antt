@@ -1,4 +1,3 @@
-use native.Mathlib.Omega.{arith}
 use Rattle.calls.proofs.Looking.{masks-left}
 use borrow.Author.Needs.{needs}
 use Rattle.calls.proofs.masks_without.Statement.{statement}
