@@ -41,8 +41,10 @@ use Rattle.policy.specs.Contents.{systemOf}
 use Rattle.policy.specs.Fits.{PolicyFits}
 use Rattle.policy.specs.declared.Policy.{Policy}
 use Rattle.visits.specs.Engine.{SingleSteps}
-use Rattle.closing.specs.Closing.{touchingIn, ConcernedBy, Covers}
-use Rattle.closing.proofs.PassedBy.{never-touching, command-tried, concerned-covers}
+use Rattle.calls.specs.Calls.{touchingIn, Covers}
+use Rattle.closing.specs.Closing.{ConcernedBy}
+use Rattle.closing.proofs.PassedBy.{never-touching, concerned-covers}
+use Rattle.calls.proofs.Looking.{command-tried}
 use Rattle.closing.specs.Asks.{onSide, firstOf, secondOf, Asks, AskedBy, LackingIn, LackingAt, leftIn}
 
 or-has : (a b j : ℕ) → has (bitOr a b) j ≡ true → (has a j ≡ true) ⊎ (has b j ≡ true)

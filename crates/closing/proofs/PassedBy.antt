@@ -31,7 +31,9 @@ use Rattle.policy.specs.Contents.{systemOf}
 use Rattle.policy.specs.Fits.{PolicyFits}
 use Rattle.policy.specs.declared.Policy.{Policy}
 use Rattle.visits.specs.Engine.{SingleSteps}
-use Rattle.closing.specs.Closing.{concernsRight, concernsIn, ConcernedBy, placeTouching, touchingIn, Covers}
+use Rattle.calls.proofs.Looking.{command-tried}
+use Rattle.calls.specs.Calls.{placeTouching, touchingIn, Covers}
+use Rattle.closing.specs.Closing.{concernsRight, concernsIn, ConcernedBy}
 
 -- ---- for `concerns`
 pub concerns-enter : (enters : Bool) (r q x y : ℕ) (op : Operation) (b : Bool) → op ≡ code.Enter q x y → enters ≡ true → b ≡ eqb q r → b ≡ concernsRight enters r (stepOf op)
@@ -39,14 +41,6 @@ concerns-enter enters r q x y op b f e d = d ∙ sym (ap₂ (λ (u : Bool) (w : 
 
 pub concerns-delete : (enters : Bool) (r q x y : ℕ) (op : Operation) (b : Bool) → op ≡ code.Delete q x y → enters ≡ false → b ≡ eqb q r → b ≡ concernsRight enters r (stepOf op)
 concerns-delete enters r q x y op b f e d = d ∙ sym (ap₂ (λ (u : Bool) (w : Operation). concernsRight u r (stepOf w)) e f)
-
--- ---- a command of a policy
-pub command-tried : (p : Policy) → PolicyFits p → SingleSteps p → (n : ℕ) → n ≤ names → (i : ℕ) → i < p .commands → (c : Command) → c ≡ getD (p .command) i missing → Tried c n
-command-tried p F single n h i l c e = record {
-  fits = subst (Fits rights) (sym e) (fits-wider (p .rights) rights (getD (p .command) i missing) (F .few-rights) (F .commands-fit i l));
-  one-step = ap (λ (d : Command). d .operations) e ∙ single .one-step i l;
-  name = h;
-}
 
 -- ---- the loop of `concerned`
 module _ (p : Policy) (enters : Bool) (r : ℕ) where

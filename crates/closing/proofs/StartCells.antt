@@ -30,10 +30,12 @@ use Rattle.visits.specs.Engine.{SingleSteps}
 use Rattle.visits.proofs.Firsts.{first-here, first-next, first-end}
 use Rattle.visits.proofs.Coming.{lowest-small, lowest-kinds}
 use Rattle.closing.specs.Asks.{AskedBy}
-use Rattle.closing.specs.Closing.{pairOf, ConcernedBy, firstTouching, bothAt, FirstPair, SoughtIn}
+use Rattle.calls.specs.Calls.{firstTouching}
+use Rattle.closing.specs.Closing.{pairOf, ConcernedBy, bothAt, FirstPair, SoughtIn}
 use Rattle.closing.specs.declared.Pair.{Pair}
 use Rattle.closing.specs.declared.Sought.{Sought}
-use Rattle.closing.proofs.ClosingCalls.{none-covered, both-none}
+use Rattle.calls.proofs.Looking.{none-covered}
+use Rattle.closing.proofs.OneCell.{both-none}
 use Rattle.closing.proofs.PassedBy.{concerned-covers}
 
 -- in cells as an accepted file has them, the set tells whether the right is there: a cell without row or column is 0

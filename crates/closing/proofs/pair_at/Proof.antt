@@ -1,4 +1,4 @@
-use Rattle.closing.proofs.ClosingCalls.{cell-asked, cell-unreturned, covers-taken, cell-untaken, covers-returned, cell-both}
+use Rattle.closing.proofs.OneCell.{cell-asked, cell-unreturned, covers-taken, cell-untaken, covers-returned, cell-both}
 use borrow.Author.Needs.{needs}
 use Rattle.closing.proofs.pair_at.Statement.{statement}
 use Rattle.closing.proofs.pair_at.Tie as tie
@@ -6,8 +6,8 @@ use Rattle.closing.proofs.pair_at.Reads as reads
 use Rattle.closing.proofs.pair_at.Lts as lts
 use Rattle.closing.proofs.asked.lacking_at.Reads as lacking-at-reads
 use Rattle.closing.proofs.asked.left.Reads as left-reads
-use Rattle.closing.proofs.first_call.Reads as first-call-reads
-use Rattle.closing.proofs.first_return.Reads as first-return-reads
+use Rattle.calls.proofs.first_call.Reads as first-call-reads
+use Rattle.calls.proofs.first_return.Reads as first-return-reads
 use Rattle.closing.proofs.no_pair.Reads as no-pair-reads
 
 -- src/lib.rt:248:9

@@ -1,14 +1,14 @@
-use Rattle.closing.proofs.ClosingCalls.{Looking, looking-start, looking-seen, looking-end, looking-number, looking-tried, looking-found, looking-less, looking-more}
+use Rattle.calls.proofs.Looking.{Looking, looking-start, looking-seen, looking-end, looking-number, looking-tried, looking-found, looking-less, looking-more}
 use Rattle.matrix.specs.Matrices.{matrixOf}
 use Rattle.queries.specs.Sought.{tablesOf}
 use Prim.Native.Nat.{_-_}
 use borrow.Author.Needs.{needs}
-use Rattle.closing.proofs.first_call.Statement.{statement}
-use Rattle.closing.proofs.first_call.Tie as tie
-use Rattle.closing.proofs.first_call.Reads as reads
-use Rattle.closing.proofs.first_call.Lts as lts
-use Rattle.closing.proofs.call_of.Reads as call-of-reads
-use Rattle.closing.proofs.not_found.Reads as not-found-reads
+use Rattle.calls.proofs.first_call.Statement.{statement}
+use Rattle.calls.proofs.first_call.Tie as tie
+use Rattle.calls.proofs.first_call.Reads as reads
+use Rattle.calls.proofs.first_call.Lts as lts
+use Rattle.calls.proofs.call_of.Reads as call-of-reads
+use Rattle.calls.proofs.not_found.Reads as not-found-reads
 use Rattle.masks.proofs.next_bit.Reads as next-bit-reads
 
 abbrev Inv-loop : tie.InvT-loop

@@ -1,11 +1,11 @@
-use Rattle.closing.proofs.ClosingCalls.{closing-gone, covers-gone, returned-gone}
+use Rattle.calls.proofs.Looking.{lookable-gone, covers-gone, returned-gone}
 use borrow.Author.Needs.{needs}
-use Rattle.closing.proofs.first_return.Statement.{statement}
-use Rattle.closing.proofs.first_return.Tie as tie
-use Rattle.closing.proofs.first_return.Reads as reads
-use Rattle.closing.proofs.first_return.Lts as lts
-use Rattle.closing.proofs.first_call.Reads as first-call-reads
-use Rattle.closing.proofs.masks_without.Reads as masks-without-reads
+use Rattle.calls.proofs.first_return.Statement.{statement}
+use Rattle.calls.proofs.first_return.Tie as tie
+use Rattle.calls.proofs.first_return.Reads as reads
+use Rattle.calls.proofs.first_return.Lts as lts
+use Rattle.calls.proofs.first_call.Reads as first-call-reads
+use Rattle.calls.proofs.masks_without.Reads as masks-without-reads
 use Rattle.matrix.proofs.Matrix.without_right.Reads as without-right-reads
 
 -- src/lib.rt:209:16
@@ -18,7 +18,7 @@ masks-without-requires c κs = search needs
 
 -- src/lib.rt:212:5
 first-call-requires : tie.Need-first-call-requires
-first-call-requires c κs = (search closing-gone, search covers-gone)
+first-call-requires c κs = (search lookable-gone, search covers-gone)
 
 -- src/lib.rt:192:1
 returns : tie.Need-returns

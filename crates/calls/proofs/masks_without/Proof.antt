@@ -1,10 +1,9 @@
-use native.Mathlib.Omega.{arith}
-use Rattle.closing.proofs.ClosingCalls.{masks-left}
+use Rattle.calls.proofs.Looking.{masks-left}
 use borrow.Author.Needs.{needs}
-use Rattle.closing.proofs.masks_without.Statement.{statement}
-use Rattle.closing.proofs.masks_without.Tie as tie
-use Rattle.closing.proofs.masks_without.Reads as reads
-use Rattle.closing.proofs.masks_without.Lts as lts
+use Rattle.calls.proofs.masks_without.Statement.{statement}
+use Rattle.calls.proofs.masks_without.Tie as tie
+use Rattle.calls.proofs.masks_without.Reads as reads
+use Rattle.calls.proofs.masks_without.Lts as lts
 use Rattle.masks.proofs.with_cell.Reads as with-cell-reads
 use Rattle.rights.proofs.without_right.Reads as without-right-reads
 

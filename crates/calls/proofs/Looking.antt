@@ -1,14 +1,14 @@
--- The closing search at one cell: the loop over the commands, on the matrix as it is and on the matrix without the right. Assumes nothing.
-use Prim.Native.Nat.{ℕ, zero, suc, _+_, _-_, _*_, _/_, _%_, _≤_, _<_}
+-- A step that is looked for: the loop over the commands, on the matrix as it is and on the matrix without the right. Assumes nothing.
+use Prim.Native.Nat.{ℕ, zero, suc, _+_, _-_, _*_, _≤_, _<_}
 use mathlib.Core.Path.{_≡_, refl, sym, ap, ap₂, _∙_, subst}
-use mathlib.Core.Bool.{Bool, true, false, not, _&&_}
-use mathlib.Core.List.{List, []}
+use mathlib.Core.Bool.{Bool, true, false}
+use mathlib.Core.List.{List}
 use mathlib.Core.Option.{Option, none, some}
 use native.Mathlib.Omega.{arith}
 use native.Mathlib.Decide.{decLt}
 use native.Mathlib.Nat.{sub-zero}
 use native.Mathlib.Numerals.{add-one}
-use borrow.Author.Tests.{lt-ltb, le-ltb, not-true}
+use borrow.Author.Tests.{lt-ltb, le-ltb}
 use lib.Dec.{ltb}
 use lib.ListN.{getD, getElem?}
 use Rattle.cases.specs.Cases.{pick, tabulate}
@@ -17,15 +17,13 @@ use Rattle.rights.proofs.Sets.{has-none}
 use Rattle.protection.specs.Limits.{names, rights}
 use Rattle.protection.specs.State.{State}
 use Rattle.protection.specs.Command.{Command as ModelCommand, System, Call, actuals}
-use Rattle.protection.specs.Execution.{takeOut}
-use Rattle.protection.specs.Judge.{firstIn, namesAt, choices, operationIn, placesOf, fourOf, callAt, allowed, firstCall, both, isEmpty}
+use Rattle.protection.specs.Judge.{firstIn, namesAt, choices, operationIn, placesOf, fourOf, callAt, allowed, firstCall}
 use Rattle.matrix.specs.Matrices.{stateOf, deleted}
 use Rattle.matrix.specs.declared.Matrix.{Matrix}
 use Rattle.masks.specs.First.{first}
 use Rattle.masks.specs.Told.{replaced}
 use Rattle.masks.specs.declared.Tables.{Tables}
 use Rattle.masks.proofs.First.{Least, least}
-use Rattle.search.specs.Narrowing.{Says}
 use Rattle.commands.specs.Contents.{missing, meaning}
 use Rattle.commands.specs.declared.Command.{Command}
 use Rattle.queries.specs.Useful.{doable, namesOfPlace, touchedBy, touchesAt, Tried}
@@ -34,16 +32,23 @@ use Rattle.queries.specs.declared.Touch.{Touch}
 use Rattle.queries.proofs.Picking.{first-same, gone-state, gone-seen}
 use Rattle.policy.specs.Contents.{systemOf}
 use Rattle.policy.specs.declared.Policy.{Policy}
-use Rattle.visits.specs.Engine.{commandNumber}
+use Rattle.visits.specs.Engine.{commandNumber, SingleSteps}
 use Rattle.visits.proofs.Asked.{policy-carried, command-found}
 use Rattle.visits.proofs.Visits.{allowed-is}
-use Rattle.closing.specs.Asks.{LackingAt, leftIn}
-use Rattle.closing.specs.Closing.{foundCall, pairOf, Covers, touching, goneFrom, masksWithout, firstTouching, placeTouching, touchingIn, TouchingFound, bothAt, Closing, SoughtIn}
-use Rattle.closing.specs.declared.Found.{Found}
-use Rattle.closing.specs.declared.Pair.{Pair}
-use Rattle.closing.specs.declared.Sought.{Sought}
-use Rattle.closing.proofs.PassedBy.{command-tried}
-use Rattle.closing.proofs.Lacking.{left-covers, out-lacks}
+use Rattle.calls.specs.Calls.{foundCall, Covers, touching, goneFrom, masksWithout, firstTouching, placeTouching, touchingIn, TouchingFound, Lookable}
+use Rattle.calls.specs.declared.Found.{Found}
+use Rattle.commands.specs.Fits.{Fits}
+use Rattle.commands.specs.declared.Operation.the-variants as code
+use Rattle.commands.proofs.Reading.{fits-wider}
+use Rattle.policy.specs.Fits.{PolicyFits}
+
+-- ---- a command of a policy
+pub command-tried : (p : Policy) → PolicyFits p → SingleSteps p → (n : ℕ) → n ≤ names → (i : ℕ) → i < p .commands → (c : Command) → c ≡ getD (p .command) i missing → Tried c n
+command-tried p F single n h i l c e = record {
+  fits = subst (Fits rights) (sym e) (fits-wider (p .rights) rights (getD (p .command) i missing) (F .few-rights) (F .commands-fit i l));
+  one-step = ap (λ (d : Command). d .operations) e ∙ single .one-step i l;
+  name = h;
+}
 
 -- ---- for `call_of`
 module _ (m : Matrix) (t : Tables) (w : Touch) (n i : ℕ) (C : ModelCommand) (at : ℕ) (found : FirstTouching C n m t w at) (size : ℕ) (size-is : size ≡ placesOf C n) where
@@ -170,13 +175,13 @@ module _ (p : Policy) (m : State) (n : ℕ) (w : Touch) where
 module _ (p : Policy) (m : Matrix) (t : Tables) (n : ℕ) (w : Touch) where
   -- what is left to look through, from command i on, is all
   pub record Looking (which count i : ℕ) : Type 0 where
-    pub asked : Closing p n w m t
+    pub asked : Lookable p n w m t
     pub by : Covers p n w (stateOf m) which
     pub number : count ≡ p .commands
     pub most : i ≤ names
     pub rest : from p (stateOf m) n w i ≡ firstTouching (systemOf p) (stateOf m) w n
 
-  pub looking-start : Closing p n w m t → (which : ℕ) → Covers p n w (stateOf m) which → (count : ℕ) → count ≡ p .commands → (i : ℕ) → i ≡ first (has which) 0 names → Looking which count i
+  pub looking-start : Lookable p n w m t → (which : ℕ) → Covers p n w (stateOf m) which → (count : ℕ) → count ≡ p .commands → (i : ℕ) → i ≡ first (has which) 0 names → Looking which count i
   looking-start K which W count e i f =
       let j = jumped p (stateOf m) n w which W 0 i (omega arith) f in
       record { asked = K; by = W; number = e; most = j .0; rest = sym (j .2) ∙ from-start p (stateOf m) n w }
@@ -223,12 +228,8 @@ module _ (p : Policy) (m : Matrix) (t : Tables) (n : ℕ) (w : Touch) where
                 rest = sym (j .2) ∙ sym (or-none (foundCall x) (from p (stateOf m) n w (i + 1)) u) ∙ sym onward ∙ K .rest;
               }
 
-pub both-none : (x : Option Call) → both x none ≡ []
-both-none none = refl
-both-none (some x) = refl
-
 -- ---- on the matrix without the right
-module _ (p : Policy) (m : Matrix) (t : Tables) (n : ℕ) (w : Touch) (K : Closing p n w m t) where
+module _ (p : Policy) (m : Matrix) (t : Tables) (n : ℕ) (w : Touch) (K : Lookable p n w m t) where
   abbrev r : ℕ
   r = w .right
 
@@ -245,8 +246,8 @@ module _ (p : Policy) (m : Matrix) (t : Tables) (n : ℕ) (w : Touch) (K : Closi
     lost : stateOf gone ≡ goneFrom w (stateOf m)
     lost = gone-state (systemOf p) (p .carried) (policy-carried p (K .closable .fits)) m t (K .closable .seen) r s o step-right (K .row) (K .column) gone g
 
-    pub closing-gone : (without : Tables) → without ≡ masksWithout (p .carried) w (m .cells) t → Closing p n w gone without
-    closing-gone without e = record {
+    pub lookable-gone : (without : Tables) → without ≡ masksWithout (p .carried) w (m .cells) t → Lookable p n w gone without
+    lookable-gone without e = record {
       closable = record {
         fits = K .closable .fits;
         single = K .closable .single;
@@ -263,61 +264,3 @@ module _ (p : Policy) (m : Matrix) (t : Tables) (n : ℕ) (w : Touch) (K : Closi
 
     pub returned-gone : (x : Found) → foundCall x ≡ firstTouching (systemOf p) (stateOf gone) w n → foundCall x ≡ firstTouching (systemOf p) (goneFrom w (stateOf m)) w n
     returned-gone x d = d ∙ ap (λ (z : State). firstTouching (systemOf p) z w n) lost
-
--- ---- one cell
-module _ (p : Policy) (w : Sought) (asks : List ℕ) (m : Matrix) (t : Tables) (K : SoughtIn p w asks m t) (c : ℕ) (l : c < names * names) where
-  -- the two steps there
-  abbrev stepAt : Bool → Touch
-  stepAt enters = record { right = w .right; subject = c / names; object = c % names; enters = enters }
-
-  pub cell-asked : (enters : Bool) → Closing p (w .name) (stepAt enters) m t
-  cell-asked enters = record { closable = K .closable; name = K .name; row = omega arith; column = omega arith }
-
-  abbrev st : State
-  st = stateOf m
-
-  abbrev less : State
-  less = takeOut st (w .right) (c / names) (c % names)
-
-  -- the commands that may have a call at the cell
-  module _ (lacking : ℕ) (L : LackingAt asks (p .carriers) (m .cells) (c / names) (c % names) lacking) (left : ℕ) where
-    pub covers-taken : Says left (leftIn (w .taking) lacking) → Covers p (w .name) (stepAt false) st left
-    covers-taken E = left-covers p (K .closable .fits) (K .closable .single) (w .name) (K .name) m st (λ u v q e. e) asks (K .asked-by) (stepAt false) lacking L (w .taking) left (K .taken-by) E
-
-    module _ (E : Says left (leftIn (w .returning) lacking)) where
-      pub covers-returned : Covers p (w .name) (stepAt true) less left
-      covers-returned = left-covers p (K .closable .fits) (K .closable .single) (w .name) (K .name) m less (λ u v q e. out-lacks (systemOf p) st (w .right) (c / names) (c % names) u v q e) asks (K .asked-by)
-          (stepAt true) lacking L (w .returning) left (K .returned-by) E
-
-      pub cell-unreturned : left ≡ 0 → (z : Pair) → pairOf z ≡ [] → pairOf z ≡ bothAt (systemOf p) w st c
-      unfolding bothAt firstTouching
-      cell-unreturned e z d = d ∙ sym (ap (both (firstTouching (systemOf p) st (stepAt false) (w .name))) (none-covered p less (w .name) (stepAt true) left covers-returned e)
-          ∙ both-none (firstTouching (systemOf p) st (stepAt false) (w .name)))
-
-  module _ (x : Found) (u : foundCall x ≡ firstTouching (systemOf p) st (stepAt false) (w .name)) where
-    pub cell-untaken : not (x .found) ≡ true → (z : Pair) → pairOf z ≡ [] → pairOf z ≡ bothAt (systemOf p) w st c
-    unfolding bothAt firstTouching
-    cell-untaken f z e =
-        let d : none ≡ foundCall x = rw (not-true (x .found) f) in
-        e ∙ ap (λ (y : Option Call). both y (firstTouching (systemOf p) less (stepAt true) (w .name))) (d ∙ u)
-
-    pub cell-both : (y : Found) → foundCall y ≡ firstTouching (systemOf p) less (stepAt true) (w .name) → (z : Pair) → z ≡ record { taken = x; returned = y } → pairOf z ≡ bothAt (systemOf p) w st c
-    unfolding bothAt firstTouching
-    cell-both y v z d = ap pairOf d ∙ ap₂ both u v
-
-pub no-pair-is : (x y : Found) → foundCall x ≡ none → foundCall y ≡ none → (z : Pair) → z ≡ record { taken = x; returned = y } → pairOf z ≡ []
-no-pair-is x y u v z d = ap pairOf d ∙ ap₂ both u v
-
-pub complete-is : (z : Pair) (b : Bool) → b ≡ (z .taken .found) && (z .returned .found) → b ≡ not (isEmpty (pairOf z))
-complete-is z b e = e ∙ go (z .taken .found) (z .returned .found)
-  where
-    x : Call
-    x = fourOf (z .taken .rule) (z .taken .actuals)
-
-    y : Call
-    y = fourOf (z .returned .rule) (z .returned .actuals)
-
-    go : (u v : Bool) → u && v ≡ not (isEmpty (both (pick u (some x) none) (pick v (some y) none)))
-    go true true = refl
-    go true false = refl
-    go false v = refl

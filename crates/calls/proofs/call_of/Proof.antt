@@ -1,10 +1,10 @@
-use Rattle.closing.proofs.ClosingCalls.{call-found, call-missing}
+use Rattle.calls.proofs.Looking.{call-found, call-missing}
 use borrow.Author.Needs.{needs}
-use Rattle.closing.proofs.call_of.Statement.{statement}
-use Rattle.closing.proofs.call_of.Tie as tie
-use Rattle.closing.proofs.call_of.Reads as reads
-use Rattle.closing.proofs.call_of.Lts as lts
-use Rattle.closing.proofs.not_found.Reads as not-found-reads
+use Rattle.calls.proofs.call_of.Statement.{statement}
+use Rattle.calls.proofs.call_of.Tie as tie
+use Rattle.calls.proofs.call_of.Reads as reads
+use Rattle.calls.proofs.call_of.Lts as lts
+use Rattle.calls.proofs.not_found.Reads as not-found-reads
 use Rattle.queries.proofs.actuals_at.Reads as actuals-at-reads
 use Rattle.queries.proofs.first_on_cell.Reads as first-on-cell-reads
 use Rattle.queries.proofs.places.Reads as places-reads
