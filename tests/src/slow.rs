@@ -88,6 +88,8 @@ fn in_any_order(random: &mut Random, mut draft: Draft, right: u8) -> (Draft, u8)
 pub struct Walk {
     names: usize,
     whole: bool,
+    /// What blank 0 is tested for comes with the walk alone, to the diagonal late.
+    late: bool,
 }
 
 impl Walk {
@@ -102,6 +104,7 @@ impl Walk {
         Walk {
             names,
             whole: names <= 10 && random.percent(75),
+            late: random.percent(40),
         }
     }
 
@@ -116,7 +119,7 @@ impl Walk {
         }
         draft.put(0, last, end);
         let (first_row, row) = if self.whole { (last, 1) } else { (0, 0) };
-        draft.put(first_row, last, 0);
+        draft.put(first_row, last - usize::from(self.late), 0);
         for token in (0..tokens).rev() {
             if token + 1 < tokens {
                 let hand_over = [[token, 0, 0], [end, 0, 1]];
@@ -138,7 +141,7 @@ impl Walk {
     /// and stands on the diagonal.
     fn mirrored(self) -> Draft {
         let mut draft = self.draft(8, 1);
-        self.relate(&mut draft, 1, |s, o| s == o);
+        self.relate(&mut draft, 1, |s, o| s == o && !self.late);
         for [s, o] in [[0, 1], [1, 0]] {
             draft.rules.push(rule(2, &[[0, 0, 1]], &[[ENTER, 1, s, o]]));
         }
@@ -278,7 +281,7 @@ fn parities(walk: Walk) -> Slow {
 fn tied(walk: Walk) -> Slow {
     let [tested, tie, lacked, wanted] = [6, 7, 8, 9];
     let mut draft = walk.crossed(tested);
-    walk.relate(&mut draft, tested, |s, o| s == o);
+    walk.relate(&mut draft, tested, |s, o| s == o && !walk.late);
     walk.relate(&mut draft, tie, full);
     walk.relate(&mut draft, lacked, even);
     walk.relate(&mut draft, wanted, odd);
@@ -290,7 +293,7 @@ fn tied(walk: Walk) -> Slow {
 fn classes(walk: Walk) -> Slow {
     let [tested, same, idle] = [6, 7, 8];
     let mut draft = walk.crossed(tested);
-    walk.relate(&mut draft, tested, full);
+    walk.relate(&mut draft, tested, |_, _| !walk.late);
     walk.relate(&mut draft, same, |s, o| (s == 0) == (o == 0));
     let conditions = [[tested, 0, 0], [tested, 0, 1], [same, 1, 2], [same, 1, 3]];
     asked(draft, idle, &conditions, [ENTER, same, 2, 3])
