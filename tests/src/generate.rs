@@ -62,7 +62,7 @@ impl Draft {
         joined(self.rights, &self.sections())
     }
 
-    fn names(&self) -> Vec<usize> {
+    pub fn names(&self) -> Vec<usize> {
         (0..NAMES).filter(|&n| self.kinds[n] > 0).collect()
     }
 
@@ -82,7 +82,7 @@ impl Draft {
 
     /// Carries by chance in so many of a hundred drafts: a few links, a chain, a
     /// cycle, or all.
-    fn spread_carries(&mut self, random: &mut Random, chance: usize) {
+    pub fn spread_carries(&mut self, random: &mut Random, chance: usize) {
         if !random.percent(chance) {
             return;
         }
@@ -142,7 +142,7 @@ impl Draft {
 
     /// About a third of the rules have spare blanks after this, one to three
     /// of them, and the others none.
-    fn spread_spares(&mut self, random: &mut Random) {
+    pub fn spread_spares(&mut self, random: &mut Random) {
         for section in &mut self.rules {
             let room = 4 - named(section).len();
             let count = match room {

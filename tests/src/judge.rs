@@ -3,7 +3,7 @@
 
 use crate::file::{self, Contents, Rule, Step, NAMES};
 use crate::machine::{run, AccessMatrix, Bounded};
-use crate::rounds::{all_names, refusal, Listing, Places, Rounds};
+use crate::rounds::{all_names, refusal, Listing, Places, Rounds, Tried};
 
 pub const SAFE: u8 = 0;
 pub const UNSAFE: u8 = 255;
@@ -28,8 +28,19 @@ pub fn judge(file: &[u8], right: u8, buffer: &mut [u8]) -> Account {
 /// The judge of the part that stays without the trusted names (document 02,
 /// C-15), a byte each.
 pub fn judge_part(file: &[u8], right: u8, trusted: &[u8], buffer: &mut [u8]) -> Account {
+    judge_trying(Tried::All, file, right, trusted, buffer)
+}
+
+/// The same with these places tried in the rounds.
+pub fn judge_trying(
+    tried: Tried,
+    file: &[u8],
+    right: u8,
+    trusted: &[u8],
+    buffer: &mut [u8],
+) -> Account {
     match asked(file, right, trusted, buffer.len()) {
-        Ok(part) => answer(&part, right, trusted, buffer),
+        Ok(part) => answer(tried, &part, right, trusted, buffer),
         Err(refusal) => Account {
             code: refusal,
             steps: 0,
@@ -57,10 +68,10 @@ fn asked(file: &[u8], right: u8, trusted: &[u8], length: usize) -> Result<Conten
     Ok(contents)
 }
 
-fn answer(part: &Contents, right: u8, trusted: &[u8], buffer: &mut [u8]) -> Account {
+fn answer(tried: Tried, part: &Contents, right: u8, trusted: &[u8], buffer: &mut [u8]) -> Account {
     let mut listing = Listing::new(&part.rules, buffer);
     // Absent in the whole is absent in the part, and not listed.
-    let rounds = Rounds::run(part, trusted, &mut listing, |done| {
+    let rounds = Rounds::trying(tried, part, trusted, &mut listing, |done| {
         done.leaked >> right & 1 == 1
     });
     let closing = !rounds.ended && close(part, &rounds.state, right, &mut listing);

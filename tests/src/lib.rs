@@ -23,6 +23,7 @@ pub mod rounds;
 pub mod scene;
 pub mod second;
 pub mod sheet;
+pub mod slow;
 pub mod stack;
 pub mod stored;
 pub mod table;

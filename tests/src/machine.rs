@@ -1,7 +1,7 @@
 //! Running a rule on an access matrix: on the file's names 0 to 31, and on the
 //! printer's machine, whose names are whole numbers without a bound.
 
-use crate::file::{self, Contents, Rule, Set, Step, CELLS, NAMES, SET_BYTES};
+use crate::file::{self, Condition, Contents, Rule, Set, Step, CELLS, NAMES, SET_BYTES};
 use std::collections::BTreeMap;
 
 #[derive(Clone, Copy, Debug, PartialEq, Eq)]
@@ -198,15 +198,12 @@ pub fn run<M: AccessMatrix>(
             return Err(12);
         }
     }
-    for condition in &rule.conditions {
-        let subject = actuals[condition.subject];
-        let object = actuals[condition.object];
-        if !before.is_subject(subject)
-            || !before.exists(object)
-            || before.cell(subject, object) & condition.carriers == 0
-        {
-            return Err(14);
-        }
+    if !rule
+        .conditions
+        .iter()
+        .all(|test| holds(before, test, actuals))
+    {
+        return Err(14);
     }
 
     let mut done = Done {
@@ -218,6 +215,15 @@ pub fn run<M: AccessMatrix>(
         operate(&mut done, step, actuals)?;
     }
     Ok(done)
+}
+
+/// Whether the condition holds of these actuals.
+pub fn holds<M: AccessMatrix>(matrix: &M, condition: &Condition, actuals: [u64; 4]) -> bool {
+    let subject = actuals[condition.subject];
+    let object = actuals[condition.object];
+    matrix.is_subject(subject)
+        && matrix.exists(object)
+        && matrix.cell(subject, object) & condition.carriers != 0
 }
 
 fn operate<M: AccessMatrix>(done: &mut Done<M>, step: &Step, actuals: [u64; 4]) -> Result<(), u8> {

@@ -3,12 +3,12 @@
 //! (document 02, C-15) too.
 
 use crate::file;
-use crate::judge::{judge_part, Account, SAFE, UNSAFE};
+use crate::judge::{judge_trying, Account, SAFE, UNSAFE};
 use crate::machine::write_matrix;
 use crate::random::Random;
 use crate::replay::{play_unbounded, Outcome, LEAK};
 use crate::report::{hex, Group};
-use crate::rounds::most_steps;
+use crate::rounds::{most_steps, Tried};
 use crate::written::{nothing, Written};
 
 /// What is asked: a right of a file, without the names that are trusted.
@@ -164,9 +164,26 @@ pub fn compare(
     question: Question,
     length: usize,
 ) -> (Account, u8) {
+    compare_trying(Tried::All, group, under_test, random, question, length)
+}
+
+/// The same, where the reference judge tries these places in the rounds.
+pub fn compare_trying(
+    tried: Tried,
+    group: &mut Group,
+    under_test: Library,
+    random: &mut Random,
+    question: Question,
+    length: usize,
+) -> (Account, u8) {
+    let Question {
+        file,
+        right,
+        trusted,
+    } = question;
     let mut given = random.bytes(length);
     let mut wanted = given.clone();
-    let account = judge_part(question.file, question.right, question.trusted, &mut wanted);
+    let account = judge_trying(tried, file, right, trusted, &mut wanted);
     let answer = call(group, under_test, random, question, &mut given);
     group.input(
         answer == (account.code, account.steps) && given == wanted,

@@ -33,15 +33,18 @@ use Rattle.commands.proofs.Reading.{modelBy}
 use Rattle.commands.specs.declared.Command.{Command}
 use Rattle.commands.specs.declared.StepRead.{StepRead}
 use Rattle.commands.specs.declared.StepRead.the-variants.{Enter, Delete, CreateSubject, CreateObject, DestroySubject, DestroyObject, Refused}
-use Rattle.queries.specs.Useful.{doable, namesOfPlace, Tried}
+use Rattle.queries.specs.Useful.{doable, namesOfPlace, touchedBy, Tried}
+use Rattle.queries.specs.declared.Touch.{Touch}
 use Rattle.queries.proofs.Goodness.{doable-holds, hold-all}
 use Rattle.queries.proofs.Shapes.{operation-is}
 use Rattle.policy.specs.Contents.{systemOf}
 use Rattle.policy.specs.Fits.{PolicyFits}
 use Rattle.policy.specs.declared.Policy.{Policy}
 use Rattle.visits.specs.Engine.{SingleSteps}
-use Rattle.closing.specs.Closing.{touchingIn, ConcernedBy, Covers}
-use Rattle.closing.proofs.PassedBy.{never-touching, command-tried, concerned-covers}
+use Rattle.calls.specs.Calls.{touchingIn, Covers}
+use Rattle.closing.specs.Closing.{ConcernedBy}
+use Rattle.closing.proofs.PassedBy.{never-touching, concerned-covers}
+use Rattle.calls.proofs.Looking.{command-tried}
 use Rattle.closing.specs.Asks.{onSide, firstOf, secondOf, Asks, AskedBy, LackingIn, LackingAt, leftIn}
 
 or-has : (a b j : ℕ) → has (bitOr a b) j ≡ true → (has a j ≡ true) ⊎ (has b j ≡ true)
@@ -188,23 +191,29 @@ on-cell b r s o c a =
     go b false false false false false true t false = none b Refused (λ t. t) (λ t. t)
     go b false false false false false false t u = none b Refused (λ t. t) (λ t. t)
 
-asked-lacks : (b : Bool) (S : System) (m : State) (r s o n i : ℕ) (c : Command) → Tried c n → (k q : ℕ) → Asks c k q → meets S (m .cell (onSide (k / 2) s o) (onSide (k % 2) s o)) q ≡ false
-    → touchingIn b S m r s o n i (meaning c) ≡ none
-asked-lacks b S m r s o n i c H k q A e = never-touching b S m r s o n i (meaning c) (λ p.
+asked-lacks : (S : System) (m : State) (w : Touch) (n i : ℕ) (c : Command) → Tried c n → (k q : ℕ) → Asks c k q
+    → meets S (m .cell (onSide (k / 2) (w .subject) (w .object)) (onSide (k % 2) (w .subject) (w .object))) q ≡ false → touchingIn S m w n i (meaning c) ≡ none
+asked-lacks S m w n i c H k q A e = never-touching S m w n i (meaning c) (λ p.
     let a = namesOfPlace (meaning c) n p in
-    ap (λ (w : ModelOperation). elim (pick b (entersAt r s o a w) (deletesAt r s o a w)) [ true ↦ doable S (meaning c) m a | false ↦ false ]) (operation-is c n H)
-    ∙ go a (pick b (entersAt r s o a (modelBy (operationAt c 0))) (deletesAt r s o a (modelBy (operationAt c 0)))) (on-cell b r s o c a))
+    ap (λ (v : ModelOperation). elim (touchedBy w a v) [ true ↦ doable S (meaning c) m a | false ↦ false ]) (operation-is c n H)
+    ∙ go a (touchedBy w a (modelBy (operationAt c 0))) (on-cell (w .enters) (w .right) (w .subject) (w .object) c a))
   where
-    go : (a : Actuals) (u : Bool) → (T u → (a (firstOf c) ≡ s) × (a (secondOf c) ≡ o)) → _≡_ {A = Bool} (elim u [ true ↦ doable S (meaning c) m a | false ↦ false ]) false
+    go : (a : Actuals) (u : Bool) → (T u → (a (firstOf c) ≡ w .subject) × (a (secondOf c) ≡ w .object)) → _≡_ {A = Bool} (elim u [ true ↦ doable S (meaning c) m a | false ↦ false ]) false
     go a true f = unheld c S m a k q A (ap₂ (λ (u v : ℕ). meets S (m .cell (onSide (k / 2) u v) (onSide (k % 2) u v)) q) (f tt .0) (f tt .1) ∙ e)
     go a false f = refl
 
 -- ---- the commands that are left: st is m, or m without some rights
 module _ (p : Policy) (F : PolicyFits p) (single : SingleSteps p) (n : ℕ) (small : n ≤ names) (m : Matrix) (st : State)
-    (less : (u v q : ℕ) → meets (systemOf p) (stateOf m .cell u v) q ≡ false → meets (systemOf p) (st .cell u v) q ≡ false) (s o : ℕ) (asks : List ℕ) (A : AskedBy p asks) (lacking : ℕ)
-    (L : LackingAt asks (p .carriers) (m .cells) s o lacking) where
-  lacks-none : (b : Bool) (r i : ℕ) → i < p .commands → has lacking i ≡ true → touchingIn b (systemOf p) st r s o n i (meaning (getD (p .command) i missing)) ≡ none
-  lacks-none b r i l t =
+    (less : (u v q : ℕ) → meets (systemOf p) (stateOf m .cell u v) q ≡ false → meets (systemOf p) (st .cell u v) q ≡ false) (asks : List ℕ) (A : AskedBy p asks) (w : Touch) (lacking : ℕ)
+    (L : LackingAt asks (p .carriers) (m .cells) (w .subject) (w .object) lacking) where
+  abbrev s : ℕ
+  s = w .subject
+
+  abbrev o : ℕ
+  o = w .object
+
+  lacks-none : (i : ℕ) → i < p .commands → has lacking i ≡ true → touchingIn (systemOf p) st w n i (meaning (getD (p .command) i missing)) ≡ none
+  lacks-none i l t =
       let X = L .says i t in
       let k = X .cell in
       let q = X .lacks .right in
@@ -212,17 +221,17 @@ module _ (p : Policy) (F : PolicyFits p) (single : SingleSteps p) (n : ℕ) (sma
       let lq : q < rights = X .lacks .small in
       let zk : (rights * k + q) / rights ≡ k = omega arith in
       let zq : (rights * k + q) % rights ≡ q = omega arith in
-      asked-lacks b (systemOf p) st r s o n i (getD (p .command) i missing) (command-tried p F single n small i l (getD (p .command) i missing) refl) k q
+      asked-lacks (systemOf p) st w n i (getD (p .command) i missing) (command-tried p F single n small i l (getD (p .command) i missing) refl) k q
       (subst (λ (z : ℕ). Asks (getD (p .command) i missing) k z) zq (subst (λ (z : ℕ). Asks (getD (p .command) i missing) z ((rights * k + q) % rights)) zk (A .says (rights * k + q) i (omega arith) (X .lacks .asked))))
       (less (onSide (k / 2) s o) (onSide (k % 2) s o) q (cell-lacks p F m (onSide (k / 2) s o) (onSide (k % 2) s o) q lq (X .lacks .lacks)))
 
-  pub left-covers : (b : Bool) (r which left : ℕ) → ConcernedBy p b r which → Says left (leftIn which lacking) → Covers p b st r s o n left
+  pub left-covers : (which left : ℕ) → ConcernedBy p (w .enters) (w .right) which → Says left (leftIn which lacking) → Covers p n w st left
   unfolding leftIn
-  left-covers b r which left W E = record {
+  left-covers which left W E = record {
     none-else = λ (i : ℕ) (l : i < p .commands) (e : has left i ≡ false). go i l (has which i) (has lacking i) refl refl (sym (E .says i (omega (arith, F .few-commands))) ∙ e);
   }
     where
-      go : (i : ℕ) → i < p .commands → (u v : Bool) → has which i ≡ u → has lacking i ≡ v → u && not v ≡ false → touchingIn b (systemOf p) st r s o n i (meaning (getD (p .command) i missing)) ≡ none
-      go i l false v f g e = concerned-covers p F single b st r s o n small which W .none-else i l f
-      go i l true true f g e = lacks-none b r i l g
+      go : (i : ℕ) → i < p .commands → (u v : Bool) → has which i ≡ u → has lacking i ≡ v → u && not v ≡ false → touchingIn (systemOf p) st w n i (meaning (getD (p .command) i missing)) ≡ none
+      go i l false v f g e = concerned-covers p F single n small w st which W .none-else i l f
+      go i l true true f g e = lacks-none i l g
       go i l true false f g e = absurd (clash true e refl)

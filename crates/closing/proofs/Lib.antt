@@ -1,5 +1,5 @@
 pub mod AskMarks
 pub mod Lacking
 pub mod PassedBy
-pub mod ClosingCalls
+pub mod OneCell
 pub mod StartCells

@@ -22,7 +22,8 @@ use Rattle.commands.specs.declared.Operation.the-variants as code
 use Rattle.commands.specs.declared.StepRead.{StepRead}
 use Rattle.commands.specs.declared.StepRead.the-variants.{Enter, Delete, CreateSubject, CreateObject, DestroySubject, DestroyObject, Refused}
 use Rattle.commands.proofs.Reading.{fits-wider, modelBy}
-use Rattle.queries.specs.Useful.{doable, namesOfPlace, touchesAt, Tried}
+use Rattle.queries.specs.Useful.{doable, namesOfPlace, touchedBy, touchesAt, Tried}
+use Rattle.queries.specs.declared.Touch.{Touch}
 use Rattle.queries.proofs.Shapes.{operation-is}
 use Rattle.queries.proofs.Closing.{none-at-all}
 use Rattle.queries.proofs.NameMasks.{Filled, filled-start, filled-more, marked-yes, marked-no}
@@ -30,7 +31,9 @@ use Rattle.policy.specs.Contents.{systemOf}
 use Rattle.policy.specs.Fits.{PolicyFits}
 use Rattle.policy.specs.declared.Policy.{Policy}
 use Rattle.visits.specs.Engine.{SingleSteps}
-use Rattle.closing.specs.Closing.{concernsRight, concernsIn, ConcernedBy, placeTouching, touchingIn, Covers}
+use Rattle.calls.proofs.Looking.{command-tried}
+use Rattle.calls.specs.Calls.{placeTouching, touchingIn, Covers}
+use Rattle.closing.specs.Closing.{concernsRight, concernsIn, ConcernedBy}
 
 -- ---- for `concerns`
 pub concerns-enter : (enters : Bool) (r q x y : ℕ) (op : Operation) (b : Bool) → op ≡ code.Enter q x y → enters ≡ true → b ≡ eqb q r → b ≡ concernsRight enters r (stepOf op)
@@ -38,14 +41,6 @@ concerns-enter enters r q x y op b f e d = d ∙ sym (ap₂ (λ (u : Bool) (w : 
 
 pub concerns-delete : (enters : Bool) (r q x y : ℕ) (op : Operation) (b : Bool) → op ≡ code.Delete q x y → enters ≡ false → b ≡ eqb q r → b ≡ concernsRight enters r (stepOf op)
 concerns-delete enters r q x y op b f e d = d ∙ sym (ap₂ (λ (u : Bool) (w : Operation). concernsRight u r (stepOf w)) e f)
-
--- ---- a command of a policy
-pub command-tried : (p : Policy) → PolicyFits p → SingleSteps p → (n : ℕ) → n ≤ names → (i : ℕ) → i < p .commands → (c : Command) → c ≡ getD (p .command) i missing → Tried c n
-command-tried p F single n h i l c e = record {
-  fits = subst (Fits rights) (sym e) (fits-wider (p .rights) rights (getD (p .command) i missing) (F .few-rights) (F .commands-fit i l));
-  one-step = ap (λ (d : Command). d .operations) e ∙ single .one-step i l;
-  name = h;
-}
 
 -- ---- the loop of `concerned`
 module _ (p : Policy) (enters : Bool) (r : ℕ) where
@@ -102,21 +97,22 @@ untouched true r s o Refused e a = refl
 untouched false r s o Refused e a = refl
 
 -- where no place qualifies, there is no call
-pub never-touching : (b : Bool) (S : System) (m : State) (r s o n i : ℕ) (C : ModelCommand) → ((p : ℕ) → touchesAt b S m r s o C n p ≡ false) → touchingIn b S m r s o n i C ≡ none
+pub never-touching : (S : System) (m : State) (w : Touch) (n i : ℕ) (C : ModelCommand) → ((p : ℕ) → touchesAt S m w C n p ≡ false) → touchingIn S m w n i C ≡ none
 unfolding touchingIn placeTouching
-never-touching b S m r s o n i C never =
-    ap (λ (u : Bool). pick u (some (callAt i C n (firstIn (touchesAt b S m r s o C n) (placesOf C n) 0))) none)
-    (ap (λ (k : ℕ). ltb k (placesOf C n)) (sym (none-at-all (touchesAt b S m r s o C n) never (placesOf C n) (placesOf C n) refl))
+never-touching S m w n i C never =
+    ap (λ (u : Bool). pick u (some (callAt i C n (firstIn (touchesAt S m w C n) (placesOf C n) 0))) none)
+    (ap (λ (k : ℕ). ltb k (placesOf C n)) (sym (none-at-all (touchesAt S m w C n) never (placesOf C n) (placesOf C n) refl))
     ∙ le-ltb (placesOf C n) (placesOf C n) (omega arith))
 
-pub nothing-touching : (b : Bool) (S : System) (m : State) (r s o n i : ℕ) (c : Command) → Tried c n → concernsRight b r (operationAt c 0) ≡ false → touchingIn b S m r s o n i (meaning c) ≡ none
-nothing-touching b S m r s o n i c H e = never-touching b S m r s o n i (meaning c) (λ p.
-    ap (λ (w : ModelOperation). elim (pick b (entersAt r s o (namesOfPlace (meaning c) n p) w) (deletesAt r s o (namesOfPlace (meaning c) n p) w)) [ true ↦ doable S (meaning c) m (namesOfPlace (meaning c) n p) | false ↦ false ]) (operation-is c n H)
-    ∙ ap (λ (u : Bool). elim u [ true ↦ doable S (meaning c) m (namesOfPlace (meaning c) n p) | false ↦ false ]) (untouched b r s o (operationAt c 0) e (namesOfPlace (meaning c) n p)))
+pub nothing-touching : (S : System) (m : State) (w : Touch) (n i : ℕ) (c : Command) → Tried c n → concernsRight (w .enters) (w .right) (operationAt c 0) ≡ false → touchingIn S m w n i (meaning c) ≡ none
+nothing-touching S m w n i c H e = never-touching S m w n i (meaning c) (λ p.
+    let a = namesOfPlace (meaning c) n p in
+    ap (λ (v : ModelOperation). elim (touchedBy w a v) [ true ↦ doable S (meaning c) m a | false ↦ false ]) (operation-is c n H)
+    ∙ ap (λ (u : Bool). elim u [ true ↦ doable S (meaning c) m a | false ↦ false ]) (untouched (w .enters) (w .right) (w .subject) (w .object) (operationAt c 0) e a))
 
-pub concerned-covers : (p : Policy) → PolicyFits p → SingleSteps p → (b : Bool) (m : State) (r s o n : ℕ) → n ≤ names → (which : ℕ) → ConcernedBy p b r which → Covers p b m r s o n which
+pub concerned-covers : (p : Policy) → PolicyFits p → SingleSteps p → (n : ℕ) → n ≤ names → (w : Touch) (m : State) (which : ℕ) → ConcernedBy p (w .enters) (w .right) which → Covers p n w m which
 unfolding concernsIn
-concerned-covers p F single b m r s o n small which W = record {
+concerned-covers p F single n small w m which W = record {
   none-else = λ (i : ℕ) (l : i < p .commands) (e : has which i ≡ false).
-      nothing-touching b (systemOf p) m r s o n i (getD (p .command) i missing) (command-tried p F single n small i l (getD (p .command) i missing) refl) (sym (W .says i l) ∙ e);
+      nothing-touching (systemOf p) m w n i (getD (p .command) i missing) (command-tried p F single n small i l (getD (p .command) i missing) refl) (sym (W .says i l) ∙ e);
 }

@@ -1,10 +1,10 @@
-use Rattle.closing.proofs.ClosingCalls.{no-pair-is}
+use Rattle.closing.proofs.OneCell.{no-pair-is}
 use borrow.Author.Needs.{needs}
 use Rattle.closing.proofs.no_pair.Statement.{statement}
 use Rattle.closing.proofs.no_pair.Tie as tie
 use Rattle.closing.proofs.no_pair.Reads as reads
 use Rattle.closing.proofs.no_pair.Lts as lts
-use Rattle.closing.proofs.not_found.Reads as not-found-reads
+use Rattle.calls.proofs.not_found.Reads as not-found-reads
 
 -- src/lib.rt:51:16
 not-found-requires : tie.Need-not-found-requires

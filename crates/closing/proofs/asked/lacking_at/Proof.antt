@@ -22,7 +22,7 @@ left-requires : tie.Need-left-requires
 left-requires c κs = search needs
 
 returns : tie.Need-returns
-returns c = search (cell-lacking, row-lacking, column-lacking, turned-lacking)
+returns c = search cell-lacking
 
 mul-lacking-in-3 : tie.Need-mul-lacking-in-3
 mul-lacking-in-3 c = search needs
