@@ -17,7 +17,7 @@ use queries::Touch;
 use rights::Set;
 
 // A call that was looked for; rule and actuals count only where it was found.
-#[derive(Drop)]
+#[derive(Clone, Copy)]
 pub struct Found {
     pub found: bool,
     pub rule: u8,

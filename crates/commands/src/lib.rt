@@ -12,7 +12,7 @@ ghost use Rattle.commands.specs.Contents.{padded, no_command, command_of, comman
 use matrix::Matrix;
 
 // How many parameters, conditions and operations there are, and their bytes as in the file: 3 for a condition, 4 for an operation.
-#[derive(Drop)]
+#[derive(Clone, Copy)]
 pub struct Command {
     pub parameters: u8,
     pub conditions: u8,
@@ -242,9 +242,9 @@ fn command_of(part: &[u8]) -> Command
     let mid = 3 + 3 * (c as usize);
     let end = part.len();
     let mut condition = [0u8; 3 * Command::CONDITIONS];
-    bytes::copy(&part[3..mid], &mut condition);
+    condition[..mid - 3].copy_from_slice(&part[3..mid]);
     let mut operation = [0u8; 4 * Command::OPERATIONS];
-    bytes::copy(&part[mid..end], &mut operation);
+    operation[..end - mid].copy_from_slice(&part[mid..end]);
     Command {
         parameters: part[0],
         conditions: c,
@@ -272,7 +272,7 @@ pub fn read_command(part: &[u8], g: u8) -> CommandRead
 }
 
 // The six primitive operations; the numbers are a right and parameters.
-#[derive(Drop)]
+#[derive(Clone, Copy)]
 pub enum Operation {
     Enter { right: u8, subject: u8, object: u8 },
     Delete { right: u8, subject: u8, object: u8 },

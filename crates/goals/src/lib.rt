@@ -8,7 +8,7 @@ use matrix::Matrix;
 use rights::Set;
 
 // A right is judged, or the first cells of a list, three bytes each, are needed; and names, as digits of a mask, that a create may not take.
-#[derive(Drop)]
+#[derive(Clone, Copy)]
 pub struct Goal {
     pub judged: bool,
     pub right: u8,
@@ -40,7 +40,7 @@ impl Goal {
         ensures { result ≡ held_goal list.now }
     {
         let mut cells = [0u8; 3 * Goal::CELLS];
-        bytes::copy(list, &mut cells);
+        cells[..list.len()].copy_from_slice(list);
         Goal {
             judged: false,
             right: 0,

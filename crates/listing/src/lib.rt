@@ -25,8 +25,9 @@ fn put(out: &mut [u8], at: usize, s: &[u8]) -> usize
     requires { at + length s.now ≤ length out.old }
     ensures { Put out.old at s.now result out.new }
 {
-    bytes::copy(s, &mut out[at..]);
-    at + s.len()
+    let end = at + s.len();
+    out[at..end].copy_from_slice(s);
+    end
 }
 
 fn put_byte(out: &mut [u8], at: usize, b: u8) -> usize

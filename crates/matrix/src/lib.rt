@@ -10,7 +10,7 @@ use rights::Set;
 pub mod cells;
 
 // Document 01: "the kinds with all cells, held as one thing". Cell (s, o) stands at 32 × s + o.
-#[derive(Drop)]
+#[derive(Clone, Copy)]
 pub struct Matrix {
     pub kinds: [u8; Matrix::NAMES],
     pub cells: [Set; Matrix::NAMES * Matrix::NAMES],

@@ -12,7 +12,7 @@ use rights::Set;
 
 // How many rights and commands there are, the matrix, and the commands; places behind the last command hold none. Of each right, what the file says that it
 // carries, and through further rights the set of those that it carries and of those that carry it.
-#[derive(Drop)]
+#[derive(Clone, Copy)]
 pub struct Policy {
     pub rights: u8,
     pub commands: u8,
@@ -24,7 +24,7 @@ pub struct Policy {
 }
 
 // refused is 0 where the file was read.
-#[derive(Drop)]
+#[derive(Clone, Copy)]
 pub struct PolicyRead {
     pub refused: u8,
     pub policy: Policy,
@@ -71,7 +71,7 @@ fn matrix_of(file: &[u8]) -> Matrix
     let k = layout::word_at(file, 2);
     let k_end = k + Matrix::NAMES;
     let mut kinds = [0u8; Matrix::NAMES];
-    bytes::copy(&file[k..k_end], &mut kinds);
+    kinds.copy_from_slice(&file[k..k_end]);
     let c = layout::word_at(file, 6);
     let c_end = c + rights::bytes::SIZE * (Matrix::NAMES * Matrix::NAMES);
     let mut cells = [rights::NONE; Matrix::NAMES * Matrix::NAMES];

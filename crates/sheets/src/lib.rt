@@ -7,7 +7,7 @@ ghost use Rattle.sheets.specs.Sheets.{entry_of, answered, part_filled, sheet_aft
 use safety::{Judgement, Prepared};
 
 // An entry of a sheet: a right, and the place for its answer: the verdict, 0 safe, 255 unsafe, else the refusal, and the number of steps written.
-#[derive(Drop)]
+#[derive(Clone, Copy)]
 pub struct Entry {
     pub right: u8,
     pub verdict: u8,

@@ -44,7 +44,7 @@ fn step_at(trace: &[u8], i: usize) -> Step
 }
 
 // A reader of a trace: the lent trace, and how many of its steps lie behind the reader.
-#[derive(Drop)]
+#[derive(Clone, Copy)]
 struct TraceReader<'a> {
     trace: &'a [u8],
     at: usize,

@@ -17,7 +17,8 @@ fn store_at(file: &mut [u8], at: usize, s: &[u8])
     requires { at + length s.now ≤ length file.old }
     ensures { file.new ≡ over file.old at s.now }
 {
-    bytes::copy(s, &mut file[at..]);
+    let end = at + s.len();
+    file[at..end].copy_from_slice(s);
 }
 
 // The sets' bytes in the place of those that stand from a place on.
