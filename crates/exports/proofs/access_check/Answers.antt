@@ -1,0 +1,6 @@
+use Rattle.policy.proofs.Laws.{read_refusal}
+use borrow.Author.Rules.{rules}
+use Rattle.exports.proofs.access_check.Goals as goal
+
+pub returns : goal.returns
+returns c = search read_refusal

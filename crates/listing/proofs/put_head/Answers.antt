@@ -1,0 +1,6 @@
+use Rattle.listing.proofs.Written.{head_put}
+use borrow.Author.Rules.{rules}
+use Rattle.listing.proofs.put_head.Goals as goal
+
+pub returns : goal.returns
+returns c = search head_put

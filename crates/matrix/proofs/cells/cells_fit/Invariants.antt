@@ -1,0 +1,15 @@
+use Prim.Native.Nat.{◌≤◌, ◌-◌}
+use mathlib.Core.Path.{◌≡◌}
+use native.Mathlib.Nat.{sub-zero}
+use Rattle.cases.specs.Cases.{all}
+use Rattle.cases.proofs.Loops.{all_end, all_stop, all_more}
+use Rattle.matrix.specs.Refusals.{cell_fits}
+use borrow.Author.Rules.{rules}
+use native.Mathlib.Omega.{arith}
+use Rattle.matrix.proofs.cells.cells_fit.Given as goal
+
+abbrev pub invariant-loop-c : goal.invariant-loop-c
+invariant-loop-c l = (l.c ≤ 1024) × (all (cell_fits l.g l.kinds l.cells) (1024 - l.c) l.c ≡ all (cell_fits l.g l.kinds l.cells) 1024 0)
+
+abbrev pub decreases-loop-c : goal.decreases-loop-c
+decreases-loop-c l = 1024 - l.c

@@ -1,0 +1,16 @@
+use Prim.Native.Nat.{◌≤◌, ◌-◌}
+use mathlib.Core.Path.{◌≡◌}
+use native.Mathlib.Nat.{sub-zero}
+use Rattle.cases.specs.Cases.{all}
+use Rattle.cases.proofs.Loops.{all_end}
+use Rattle.matrix.specs.Refusals.{kind_fits}
+use Rattle.matrix.proofs.Tests.{kind_stop, kind_more}
+use borrow.Author.Rules.{rules}
+use native.Mathlib.Omega.{arith}
+use Rattle.matrix.proofs.cells.kinds_fit.Given as goal
+
+abbrev pub invariant-loop-x : goal.invariant-loop-x
+invariant-loop-x l = (l.x ≤ 32) × (all (kind_fits l.kinds) (32 - l.x) l.x ≡ all (kind_fits l.kinds) 32 0)
+
+abbrev pub decreases-loop-x : goal.decreases-loop-x
+decreases-loop-x l = 32 - l.x

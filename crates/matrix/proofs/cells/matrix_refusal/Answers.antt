@@ -1,0 +1,16 @@
+use Rattle.cases.proofs.Picks.{cases}
+use Rattle.matrix.specs.Refusals.{matrix_refusal}
+use borrow.Author.Rules.{rules}
+use Rattle.matrix.proofs.cells.matrix_refusal.Goals as goal
+
+pub returns-then-not-kinds_fit : goal.returns-then-not-kinds_fit
+unfolding matrix_refusal
+returns-then-not-kinds_fit c = search cases depth 8
+
+pub returns-then-not-cells_fit : goal.returns-then-not-cells_fit
+unfolding matrix_refusal
+returns-then-not-cells_fit c = search cases depth 8
+
+pub returns : goal.returns
+unfolding matrix_refusal
+returns c = search cases depth 8

@@ -1,0 +1,10 @@
+use native.Mathlib.Omega.{arith}
+use Rattle.policy.proofs.Policies.{matrix_is}
+use borrow.Author.Rules.{rules}
+use Rattle.policy.proofs.matrix_of.Goals as goal
+
+pub overflow_mul-c_end-2 : goal.overflow_mul-c_end-2
+overflow_mul-c_end-2 c = omega arith
+
+pub returns : goal.returns
+returns c = search matrix_is

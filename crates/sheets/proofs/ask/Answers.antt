@@ -1,0 +1,16 @@
+use Prim.Native.Nat.{◌*◌}
+use borrow.Author.Rules.{rules}
+use Rattle.sheets.proofs.Asking.{asked_count, asked}
+use Rattle.sheets.proofs.ask.Goals as goal
+
+pub entry_of-requires : goal.entry_of-requires
+entry_of-requires c =
+    let t = c.before in
+    let s = t.args in
+    asked_count s.file s.right (s.i * s.part) s.part s.buffer.now c.judge_prepared-judgement.result _ c.judge_prepared-judgement.ensures t.requires.1 t.requires.0.0 t.requires.0.1
+
+pub returns : goal.returns
+returns c =
+    let t = c.before in
+    let s = t.args in
+    asked s.file s.right (s.i * s.part) s.part s.buffer.now c.judge_prepared-judgement.result _ c.judge_prepared-judgement.ensures t.requires.1 c.entry_of.result c.entry_of.ensures

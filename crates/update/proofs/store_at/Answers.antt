@@ -1,0 +1,6 @@
+use Rattle.update.proofs.Stored.{stored}
+use borrow.Author.Rules.{rules}
+use Rattle.update.proofs.store_at.Goals as goal
+
+pub returns : goal.returns
+returns c = search stored
