@@ -22,7 +22,7 @@ pub loop-j-smaller : goal.loop-j-smaller
 loop-j-smaller c = omega arith
 
 pub loop-j-preserved : goal.loop-j-preserved
-loop-j-preserved c = (omega arith, elim c.if-holds.branch [ then-holds w ↦ gathering_yes _ _ _ _ _ _ c.loop-j.invariant.1 c.holds.ensures (search rules) _ w.1 | else-holds w ↦ search gathering_no ])
+loop-j-preserved c = (omega arith, elim c.if-holds.branch [ then-holds w ↦ gathering_yes _ _ _ _ _ _ c.loop-j.invariant.1 c.holds.ensures (search rules) _ w.set-is | else-holds w ↦ search gathering_no ])
 
 pub returns : goal.returns
 returns c = search gathering_end

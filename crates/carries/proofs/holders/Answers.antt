@@ -21,7 +21,7 @@ pub loop-i-smaller : goal.loop-i-smaller
 loop-i-smaller c = omega arith
 
 pub loop-i-preserved : goal.loop-i-preserved
-loop-i-preserved c = (omega arith, elim c.if-holds.branch [ then-holds w ↦ holding_yes _ _ _ _ _ c.loop-i.invariant.1 c.holds.ensures w.if-holds.true (omega arith) _ (w.2 ∙ w.1.ensures) | else-holds w ↦ search holding_no ])
+loop-i-preserved c = (omega arith, elim c.if-holds.branch [ then-holds w ↦ holding_yes _ _ _ _ _ c.loop-i.invariant.1 c.holds.ensures w.if-holds.true (omega arith) _ (w.set-is ∙ w.with_right-more.ensures) | else-holds w ↦ search holding_no ])
 
 pub returns : goal.returns
 returns c = holding_end _ _ _ _ (omega arith) c.loop-i.invariant.1
