@@ -1,8 +1,8 @@
 -- The loop of a replay: what is left of the definition, from where the loop stands, is the whole. Assumes nothing.
-use Prim.Native.Nat.{ℕ, zero, suc, ◌+◌, ◌*◌, ◌-◌, ◌/◌, ◌%◌, ◌≤◌, ◌<◌}
-use mathlib.Core.Path.{◌≡◌, refl, sym, ap, ap₂, ◌∙◌, subst}
+use Prim.Native.Nat.{ℕ, suc, ◌+◌, ◌-◌, ◌%◌, ◌≤◌, ◌<◌}
+use mathlib.Core.Path.{◌≡◌, refl, sym, ap, ◌∙◌}
 use mathlib.Core.Bool.{Bool, true, false}
-use mathlib.Core.List.{List, [], ◌∷◌}
+use mathlib.Core.List.{List}
 use native.Mathlib.Nat.{sub-zero}
 use native.Mathlib.Numerals.{add-one}
 use native.Mathlib.Omega.{arith}
@@ -10,24 +10,19 @@ use borrow.Author.Tests.{ne_eqb, eq-eqb, le-leb, lt-leb}
 use lib.Dec.{eqb, leb}
 use lib.ListN.{length}
 use Rattle.cases.specs.Cases.{pick, tabulate}
-use Rattle.protection.specs.Limits.{rights}
-use Rattle.protection.specs.State.{State}
-use Rattle.protection.specs.Command.{Call}
 use Rattle.protection.specs.Execution.{bounded, Outcome, refused, done, execute}
 use Rattle.protection.specs.Leak.{after}
-use Rattle.matrix.specs.Canonical.{Canonical}
 use Rattle.matrix.specs.Matrices.{state_of}
 use Rattle.matrix.specs.declared.Matrix.{Matrix}
 use Rattle.layout.specs.File.{rights_of}
 use Rattle.policy.specs.Refusals.{refusal}
-use Rattle.policy.specs.Contents.{system_of, policy_of, policy_read, file_state, file_system}
-use Rattle.policy.specs.Fits.{PolicyFits}
+use Rattle.policy.specs.Contents.{system_of, policy_of, policy_read}
 use Rattle.policy.specs.declared.Policy.{Policy}
 use Rattle.policy.specs.declared.PolicyRead.{PolicyRead}
 use Rattle.policy.proofs.Laws.{read_refusal, read_policy}
 use Rattle.execution.specs.Runs.{answer_of, outcome_of, ExecutedAs}
 use Rattle.execution.specs.declared.Answer.{Answer}
-use Rattle.execution.specs.declared.Answer.TheVariants.{Refused as Refuses, Done, Leaked}
+use Rattle.execution.specs.declared.Answer.TheVariants.{Done, Leaked}
 use Rattle.execution.specs.declared.Executed.{Executed}
 use Rattle.trace.specs.Traces.{step_at, step_call, calls, steps_in}
 use Rattle.trace.specs.Replays.{reported, replay_from, file_replay}

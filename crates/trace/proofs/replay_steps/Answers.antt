@@ -1,9 +1,7 @@
-use Rattle.std.proofs.Common.{◌≡◌, ◌<◌, ◌/◌, length, rules, arith, ap, ◌∙◌}
-use Rattle.protection.specs.Limits.{rights}
+use Rattle.std.proofs.Common.{◌≡◌, ◌/◌, length, rules, ap, ◌∙◌}
 use Rattle.matrix.specs.Matrices.{matrix_of}
 use Rattle.matrix.proofs.Inverse.{canonical_wider}
 use Rattle.execution.specs.Runs.{executed_of}
-use Rattle.execution.specs.declared.Answer.TheVariants.{Done}
 use Rattle.trace.specs.Traces.{step_at}
 use Rattle.trace.proofs.Replaying.{replay_start, replay_stop, replay_more, replay_end}
 use Rattle.trace.proofs.replay_steps.Goals as goal

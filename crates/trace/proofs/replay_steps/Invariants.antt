@@ -1,4 +1,4 @@
-use Rattle.std.proofs.Common.{ℕ, ◌-◌, ◌≡◌}
+use Rattle.std.proofs.Common.{◌-◌, ◌≡◌}
 use Rattle.cases.specs.Cases.{tabulate}
 use Rattle.protection.specs.Limits.{rights}
 use Rattle.matrix.specs.Canonical.{Canonical}
