@@ -21,14 +21,14 @@ drop_replicate zero m h = ap (λ (k : ℕ). replicate {A = ℕ} k 0) (sym (sub-z
 drop_replicate (suc n) zero h = absurd (not-suc-le-zero h)
 drop_replicate (suc n) (suc m) h = let e : suc m - suc n ≡ m - n = omega arith in rw e (drop_replicate n m (omega arith))
 
--- a list copied over the front of zeros
-pub copied : (size : ℕ) (l x : List ℕ) → length l ≤ size → x ≡ take (length l) l ++ drop (length l) (replicate size 0) → x ≡ padded size l
-copied size l x h e = e ∙ ap₂ (λ (a b : List ℕ). a ++ b) (take-length l) (drop_replicate (length l) size h)
+-- a list in the place of the first n zeros
+pub copied : (size n : ℕ) (l x : List ℕ) → n ≤ size → length l ≡ n → x ≡ l → x ++ drop n (replicate size 0) ≡ padded size l
+copied size n l x h e d = ap₂ (λ (a b : List ℕ). a ++ b) d (drop_replicate n size h) ∙ ap (λ (k : ℕ). l ++ replicate (size - k) 0) (sym e)
 
 pub command_is : (p x y : List ℕ) → byte p 1 ≤ 4 → byte p 2 ≤ 6 → length p ≡ 3 + 3 * byte p 1 + 4 * byte p 2
-    → x ≡ take (length (take (3 + 3 * byte p 1 - 3) (drop 3 p))) (take (3 + 3 * byte p 1 - 3) (drop 3 p)) ++ drop (length (take (3 + 3 * byte p 1 - 3) (drop 3 p))) (replicate 12 0)
-    → y ≡ take (length (take (length p - (3 + 3 * byte p 1)) (drop (3 + 3 * byte p 1) p))) (take (length p - (3 + 3 * byte p 1)) (drop (3 + 3 * byte p 1) p)) ++ drop (length (take (length p - (3 + 3 * byte p 1)) (drop (3 + 3 * byte p 1) p))) (replicate 24 0)
-    → ◌≡◌ {A = Command} (record { parameters = byte p 0; conditions = byte p 1; operations = byte p 2; condition = x; operation = y }) (command_of p)
+    → x ≡ take (3 + 3 * byte p 1 - 3) (drop 3 p)
+    → y ≡ take (length p - (3 + 3 * byte p 1)) (drop (3 + 3 * byte p 1) p)
+    → ◌≡◌ {A = Command} (record { parameters = byte p 0; conditions = byte p 1; operations = byte p 2; condition = x ++ drop (3 + 3 * byte p 1 - 3) (replicate 12 0); operation = y ++ drop (length p - (3 + 3 * byte p 1)) (replicate 24 0) }) (command_of p)
 unfolding command_of
 command_is p x y hc hm e dx dy =
     let u : 3 + 3 * byte p 1 - 3 ≡ 3 * byte p 1 = omega arith in
@@ -36,10 +36,10 @@ command_is p x y hc hm e dx dy =
     let n : length (take (3 + 3 * byte p 1 - 3) (drop 3 p)) ≡ 3 + 3 * byte p 1 - 3 = length-take-le (3 + 3 * byte p 1 - 3) (drop 3 p) (simp length-drop (omega arith)) in
     let k : length (take (length p - (3 + 3 * byte p 1)) (drop (3 + 3 * byte p 1) p)) ≡ length p - (3 + 3 * byte p 1) =
     length-take-le (length p - (3 + 3 * byte p 1)) (drop (3 + 3 * byte p 1) p) (simp length-drop (omega arith)) in
-    let ex : x ≡ padded 12 (take (3 * byte p 1) (drop 3 p)) =
-    copied 12 (take (3 + 3 * byte p 1 - 3) (drop 3 p)) x (omega arith) dx ∙ ap (λ (z : ℕ). padded 12 (take z (drop 3 p))) u in
-    let ey : y ≡ padded 24 (take (4 * byte p 2) (drop (3 + 3 * byte p 1) p)) =
-    copied 24 (take (length p - (3 + 3 * byte p 1)) (drop (3 + 3 * byte p 1) p)) y (omega arith) dy ∙ ap (λ (z : ℕ). padded 24 (take z (drop (3 + 3 * byte p 1) p))) v in
+    let ex : x ++ drop (3 + 3 * byte p 1 - 3) (replicate 12 0) ≡ padded 12 (take (3 * byte p 1) (drop 3 p)) =
+    copied 12 (3 + 3 * byte p 1 - 3) (take (3 + 3 * byte p 1 - 3) (drop 3 p)) x (omega arith) n dx ∙ ap (λ (z : ℕ). padded 12 (take z (drop 3 p))) u in
+    let ey : y ++ drop (length p - (3 + 3 * byte p 1)) (replicate 24 0) ≡ padded 24 (take (4 * byte p 2) (drop (3 + 3 * byte p 1) p)) =
+    copied 24 (length p - (3 + 3 * byte p 1)) (take (length p - (3 + 3 * byte p 1)) (drop (3 + 3 * byte p 1) p)) y (omega arith) k dy ∙ ap (λ (z : ℕ). padded 24 (take z (drop (3 + 3 * byte p 1) p))) v in
     rw (ex, ey)
 
 module _ (g : ℕ) (p : List ℕ) (r : ℕ) (d : r ≡ command_refusal g p) where

@@ -33,19 +33,25 @@ module _ (k g kind q x y : ℕ) (r : StepRead) where
   -- its seven lines
   abbrev Answered : Type 0
   Answered =
-      (kind ≡ 1 → r ≡ on_cell k g q x y (Enter q x y)) × ((kind ≡ 2 → r ≡ on_cell k g q x y (Delete q x y)) × ((kind ≡ 3 → r ≡ on_name k q x y (CreateSubject x))
-      × ((kind ≡ 4 → r ≡ on_name k q x y (CreateObject x)) × ((kind ≡ 5 → r ≡ on_name k q x y (DestroySubject x)) × ((kind ≡ 6 → r ≡ on_name k q x y (DestroyObject x))
-      × ((kind < 1) ⊎ (6 < kind) → r ≡ Refused))))))
+      record {
+        enter : kind ≡ 1 → r ≡ on_cell k g q x y (Enter q x y);
+        delete : kind ≡ 2 → r ≡ on_cell k g q x y (Delete q x y);
+        create_subject : kind ≡ 3 → r ≡ on_name k q x y (CreateSubject x);
+        create_object : kind ≡ 4 → r ≡ on_name k q x y (CreateObject x);
+        destroy_subject : kind ≡ 5 → r ≡ on_name k q x y (DestroySubject x);
+        destroy_object : kind ≡ 6 → r ≡ on_name k q x y (DestroyObject x);
+        any_other : (kind < 1) ⊎ (6 < kind) → r ≡ Refused;
+      }
 
   pub read_is : Answered → r ≡ step_read k g kind q x y
   unfolding step_read
-  read_is (e1, (e2, (e3, (e4, (e5, (e6, e7)))))) =
-      by 1 (on_cell k g q x y (Enter q x y)) _ e1 (λ n1.
-      by 2 (on_cell k g q x y (Delete q x y)) _ e2 (λ n2.
-      by 3 (on_name k q x y (CreateSubject x)) _ e3 (λ n3.
-      by 4 (on_name k q x y (CreateObject x)) _ e4 (λ n4.
-      by 5 (on_name k q x y (DestroySubject x)) _ e5 (λ n5.
-      by 6 (on_name k q x y (DestroyObject x)) _ e6 (λ n6. e7 (other n1 n2 n3 n4 n5 n6 (dec_lt kind 1))))))))
+  read_is e =
+      by 1 (on_cell k g q x y (Enter q x y)) _ e.enter (λ n1.
+      by 2 (on_cell k g q x y (Delete q x y)) _ e.delete (λ n2.
+      by 3 (on_name k q x y (CreateSubject x)) _ e.create_subject (λ n3.
+      by 4 (on_name k q x y (CreateObject x)) _ e.create_object (λ n4.
+      by 5 (on_name k q x y (DestroySubject x)) _ e.destroy_subject (λ n5.
+      by 6 (on_name k q x y (DestroyObject x)) _ e.destroy_object (λ n6. e.any_other (other n1 n2 n3 n4 n5 n6 (dec_lt kind 1))))))))
     where
       by : (n : ℕ) (s t : StepRead) → (kind ≡ n → r ≡ s) → ((kind ≡ n → ⊥) → r ≡ t) → r ≡ pick (eqb kind n) s t
       by n s t e f = go (ℕ_discrete kind n)
@@ -61,7 +67,16 @@ module _ (k g kind q x y : ℕ) (r : StepRead) where
   -- and the equation is the contract
   pub answers : r ≡ step_read k g kind q x y → Answered
   unfolding step_read
-  answers e = (at 1, (at 2, (at 3, (at 4, (at 5, (at 6, λ h. e ∙ ⊎_elim (λ l. none (λ n a b z. omega arith)) (λ l. none (λ n a b z. omega arith)) h))))))
+  answers e =
+      record {
+        enter = at 1;
+        delete = at 2;
+        create_subject = at 3;
+        create_object = at 4;
+        destroy_subject = at 5;
+        destroy_object = at 6;
+        any_other = λ h. e ∙ ⊎_elim (λ l. none (λ n a b z. omega arith)) (λ l. none (λ n a b z. omega arith)) h;
+      }
     where
       at : (n : ℕ) → kind ≡ n → r ≡ step_read k g n q x y
       at n z = e ∙ ap (λ (i : ℕ). step_read k g i q x y) z

@@ -12,9 +12,9 @@ use Rattle.commands.proofs.Contents.{copied}
 use Rattle.goals.specs.Goals.{cell_limit, needed_at, cells_in, needed_by, held_goal}
 use Rattle.goals.specs.declared.Goal.{Goal}
 
-pub held_copied : (l x : List ℕ) → length l ≤ 24 → x ≡ take (length l) l ++ drop (length l) (replicate 24 0)
-    → ◌≡◌ {A = Goal} (record { judged = false; right = 0; count = length l / 3; cells = x; reserved = 0 }) (held_goal l)
-held_copied l x h e = let z : x ≡ padded 24 l = copied 24 l x h e in rw z
+pub held_copied : (l x : List ℕ) → length l ≤ 24 → x ≡ l
+    → ◌≡◌ {A = Goal} (record { judged = false; right = 0; count = length l / 3; cells = x ++ drop (length l) (replicate 24 0); reserved = 0 }) (held_goal l)
+held_copied l x h e = rw (copied 24 (length l) l x h refl e)
 
 pub held_cell : (l : List ℕ) (j : ℕ) → j < length l / 3 → needed_at (padded (3 * cell_limit) l) j ≡ needed_at l j
 held_cell l j h = rw (at (3 * j) (omega arith), at (3 * j + 1) (omega arith), at (3 * j + 2) (omega arith))

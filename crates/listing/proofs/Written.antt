@@ -44,18 +44,15 @@ put_one b at x h = record {
   bytes = set_split b at x h ∙ sym (append_assoc (take at b) (x ∷ []) (drop (suc at) b)) ∙ ap (λ (n : ℕ). (take at b ++ (x ∷ [])) ++ drop n b) (sym (add-one at));
 }
 
--- a list copied over the front of the part that begins at a place
-pub put_all : (b s p : List ℕ) (at : ℕ) → at + length s ≤ length b → p ≡ take (length s) s ++ drop (length s) (take (length b - at) (drop at b))
-    → Put b at s (at + length s) (take at b ++ (p ++ drop (length b - at) (drop at b)))
-put_all b s p at h e = record { next = refl; bytes = stored }
+-- a list in the place of as many from a place on
+pub put_all : (b s p : List ℕ) (at : ℕ) → p ≡ s → Put b at s (at + length s) (take at b ++ (p ++ drop (at + length s - at) (drop at b)))
+put_all b s p at e = record { next = refl; bytes = stored }
   where
-    stored : take at b ++ (p ++ drop (length b - at) (drop at b)) ≡ over b at s
+    stored : take at b ++ (p ++ drop (at + length s - at) (drop at b)) ≡ over b at s
     stored =
-        let k : length (drop at b) ≡ length b - at = length-drop at b in
-        let a : take (length b - at) (drop at b) ≡ drop at b = take_all (length b - at) (drop at b) (omega arith) in
-        let c : drop (length b - at) (drop at b) ≡ [] = drop_of_length-le (drop at b) {i = length b - at} (omega arith) in
-        let q : p ≡ s ++ drop (at + length s) b = e ∙ ap₂ (λ (x y : List ℕ). x ++ drop (length s) y) (take-length s) a ∙ ap (λ (x : List ℕ). s ++ x) (drop-drop (length s) at b) in
-        ap₂ (λ (x y : List ℕ). take at b ++ (x ++ y)) q c ∙ ap (λ (x : List ℕ). take at b ++ x) (append-nil (s ++ drop (at + length s) b)) ∙ sym (append_assoc (take at b) s (drop (at + length s) b))
+        let w : at + length s - at ≡ length s = omega arith in
+        ap₂ (λ (x : List ℕ) (k : ℕ). take at b ++ (x ++ drop k (drop at b))) e w ∙ ap (λ (x : List ℕ). take at b ++ (s ++ x)) (drop-drop (length s) at b)
+        ∙ sym (append_assoc (take at b) s (drop (at + length s) b))
 
 -- ---- digits
 -- more turns than the number's own bring no more digits

@@ -41,16 +41,6 @@ pub refused_is : (n : ℕ) (p : Policy) → p ≡ no_policy → ◌≡◌ {A = P
 refused_is n p e = rw e
 
 -- ---- the matrix
--- a section copied into an array of its own length
-copied : (f x : List ℕ) (i w n : ℕ) → w ≡ offset_of f i → length_of f i ≡ n → w + n ≤ length f
-    → x ≡ take (length (take (w + n - w) (drop w f))) (take (w + n - w) (drop w f)) ++ drop (length (take (w + n - w) (drop w f))) (replicate n 0) → x ≡ section f i
-copied f x i w n d e h q =
-    let u : w + n - w ≡ n = omega arith in
-    let s : List ℕ = take (w + n - w) (drop w f) in
-    let k : length s ≡ w + n - w = length-take-le (w + n - w) (drop w f) (simp length-drop (omega arith)) in
-    let z : drop {A = ℕ} (length s) (replicate n 0) ≡ [] = drop_of_length-le (replicate n 0) {i = length s} (let r : length {A = ℕ} (replicate n 0) ≡ n = length-replicate n 0 in omega arith) in
-    q ∙ ap₂ (λ (a b : List ℕ). a ++ b) (take-length s) z ∙ append-nil s ∙ ap₂ (λ (a b : ℕ). take a (drop b f)) (u ∙ sym e) d
-
 -- a part of the file that begins where section i does and is as long
 section_part : (f : List ℕ) (i w n : ℕ) → w ≡ offset_of f i → length_of f i ≡ n → take (w + n - w) (drop w f) ≡ section f i
 section_part f i w n d e = let u : w + n - w ≡ n = omega arith in ap₂ (λ (a b : ℕ). take a (drop b f)) (u ∙ sym e) d
@@ -61,12 +51,12 @@ sets_read : (f x : List ℕ) (i w n k : ℕ) → w ≡ offset_of f i → length_
 sets_read f x i w n k d e q = q ∙ ap₂ sets_in (length-replicate {A = ℕ} k 0) (section_part f i w n d e)
 
 pub matrix_is : (f x y : List ℕ) (w v : ℕ) → MatrixInside f → w ≡ word f 2 → v ≡ word f 6
-    → x ≡ take (length (take (w + names - w) (drop w f))) (take (w + names - w) (drop w f)) ++ drop (length (take (w + names - w) (drop w f))) (replicate names 0)
+    → x ≡ take (w + names - w) (drop w f)
     → y ≡ sets_in (length {A = ℕ} (replicate (names * names) 0)) (take (v + set_bytes * (names * names) - v) (drop v f))
     → ◌≡◌ {A = Matrix} (record { kinds = x; cells = y }) (matrix_in f)
 matrix_is f x y w v h dw dv ex ey =
-    let ks = h.kinds_size in let cs = h.cells_size in let ke = h.kinds_end in
-    let a : x ≡ section f 0 = copied f x 0 w names dw ks (omega arith) ex in
+    let cs = h.cells_size in
+    let a : x ≡ section f 0 = ex ∙ section_part f 0 w names dw h.kinds_size in
     let b : y ≡ cells_in f = sets_read f y 1 v (set_bytes * (names * names)) (names * names) dv cs ey in
     rw (a, b)
 

@@ -1,37 +1,29 @@
 -- The loop of a replay: what is left of the definition, from where the loop stands, is the whole. Assumes nothing.
-use Prim.Native.Nat.{ℕ, zero, suc, ◌+◌, ◌*◌, ◌-◌, ◌/◌, ◌%◌, ◌≤◌, ◌<◌}
-use mathlib.Core.Path.{◌≡◌, refl, sym, ap, ap₂, ◌∙◌, subst}
+use Prim.Native.Nat.{ℕ, suc, ◌+◌, ◌-◌, ◌%◌, ◌≤◌, ◌<◌}
+use mathlib.Core.Path.{◌≡◌, refl, sym, ap, ◌∙◌}
 use mathlib.Core.Bool.{Bool, true, false}
-use mathlib.Core.List.{List, [], ◌∷◌}
-use mathlib.Core.Logic.{◌⊎◌, ⊎_elim}
+use mathlib.Core.List.{List}
 use native.Mathlib.Nat.{sub-zero}
 use native.Mathlib.Numerals.{add-one}
 use native.Mathlib.Omega.{arith}
 use borrow.Author.Tests.{ne_eqb, eq-eqb, le-leb, lt-leb}
-use denote.Enum.Declared.{tag_of, declared}
 use lib.Dec.{eqb, leb}
 use lib.ListN.{length}
 use Rattle.cases.specs.Cases.{pick, tabulate}
-use Rattle.protection.specs.Limits.{rights}
-use Rattle.protection.specs.State.{State}
-use Rattle.protection.specs.Command.{Call}
 use Rattle.protection.specs.Execution.{bounded, Outcome, refused, done, execute}
 use Rattle.protection.specs.Leak.{after}
-use Rattle.matrix.specs.Canonical.{Canonical}
 use Rattle.matrix.specs.Matrices.{state_of}
 use Rattle.matrix.specs.declared.Matrix.{Matrix}
 use Rattle.layout.specs.File.{rights_of}
 use Rattle.policy.specs.Refusals.{refusal}
-use Rattle.policy.specs.Contents.{system_of, policy_of, policy_read, file_state, file_system}
-use Rattle.policy.specs.Fits.{PolicyFits}
+use Rattle.policy.specs.Contents.{system_of, policy_of, policy_read}
 use Rattle.policy.specs.declared.Policy.{Policy}
 use Rattle.policy.specs.declared.PolicyRead.{PolicyRead}
 use Rattle.policy.proofs.Laws.{read_refusal, read_policy}
 use Rattle.execution.specs.Runs.{answer_of, outcome_of, ExecutedAs}
 use Rattle.execution.specs.declared.Answer.{Answer}
-use Rattle.execution.specs.declared.Answer.TheVariants.{Refused as Refuses, Done, Leaked}
+use Rattle.execution.specs.declared.Answer.TheVariants.{Done, Leaked}
 use Rattle.execution.specs.declared.Executed.{Executed}
-use Rattle.execution.specs.contracts.Answer.{enum}
 use Rattle.trace.specs.Traces.{step_at, step_call, calls, steps_in}
 use Rattle.trace.specs.Replays.{reported, replay_from, file_replay}
 use Rattle.trace.specs.Ends.{end_of}
@@ -40,13 +32,13 @@ use Rattle.trace.specs.declared.Replay.TheVariants.{NoLeak, Leak, Refused}
 use Rattle.trace.specs.declared.Step.{Step}
 
 -- an answer other than `Done` ends the replay
-halts : (r i : ℕ) (o : Outcome) (later : Replay) → (tag_of (declared enum) (answer_of r o) ≡ 0) ⊎ (tag_of (declared enum) (answer_of r o) ≡ 2) → end_of (answer_of r o) i ≡ reported r i o later
+halts : (r i : ℕ) (o : Outcome) (later : Replay) → (answer_of r o ≡ Done → ⊥) → end_of (answer_of r o) i ≡ reported r i o later
 halts r i (refused n) later h = refl
 halts r i (done m new) later h = go (new r) h
   where
-    go : (b : Bool) → (tag_of (declared enum) (pick b Leaked Done) ≡ 0) ⊎ (tag_of (declared enum) (pick b Leaked Done) ≡ 2) → end_of (pick b Leaked Done) i ≡ pick b (Leak i) later
+    go : (b : Bool) → (pick b Leaked Done ≡ Done → ⊥) → end_of (pick b Leaked Done) i ≡ pick b (Leak i) later
     go true h = refl
-    go false h = ⊎_elim (λ e. let z : ◌≡◌ {A = ℕ} 1 0 = e in absurd (omega arith)) (λ e. let z : ◌≡◌ {A = ℕ} 1 2 = e in absurd (omega arith)) h
+    go false h = absurd (h refl)
 
 goes : (r i : ℕ) (o : Outcome) (later : Replay) → answer_of r o ≡ Done → reported r i o later ≡ later
 goes r i (refused n) later e = absurd (let z : ◌≡◌ {A = ℕ} 0 1 = cc in omega arith)
@@ -74,10 +66,10 @@ module _ (p : Policy) (t : List ℕ) (right n i : ℕ) (m : Matrix) (s : Step) (
   unfolding replay_from
   unrolled = let z : n - i ≡ suc (n - (i + 1)) = omega arith in rw (z, add-one i)
 
-  pub replay_stop : (x : Replay) → (tag_of (declared enum) e.answer ≡ 0) ⊎ (tag_of (declared enum) e.answer ≡ 2) → x ≡ end_of e.answer i → x ≡ whole
+  pub replay_stop : (x : Replay) → (e.answer ≡ Done → ⊥) → x ≡ end_of e.answer i → x ≡ whole
   replay_stop x d f =
       f ∙ ap (λ (w : Answer). end_of w i) answered
-      ∙ halts right i o later (subst (λ (w : Answer). (tag_of (declared enum) w ≡ 0) ⊎ (tag_of (declared enum) w ≡ 2)) answered d)
+      ∙ halts right i o later (λ z. d (answered ∙ z))
       ∙ sym unrolled ∙ inv
 
   pub replay_more : (j : ℕ) → j ≡ i + 1 → e.answer ≡ Done → replay_from (system_of p) right (tabulate (step_call t) (n - j) j) j (state_of e.matrix) ≡ whole
@@ -85,6 +77,11 @@ module _ (p : Policy) (t : List ℕ) (right n i : ℕ) (m : Matrix) (s : Step) (
       ap (λ (k : ℕ). replay_from (system_of p) right (tabulate (step_call t) (n - k) k) k (state_of e.matrix)) dj
       ∙ ap (replay_from (system_of p) right (tabulate (step_call t) (n - (i + 1)) (i + 1)) (i + 1)) (h.state ∙ ap (λ (w : Outcome). after w (state_of m)) outcome_is)
       ∙ sym (goes right i o later (sym answered ∙ d)) ∙ sym unrolled ∙ inv
+
+-- the loop begins with the whole
+pub replay_start : (p : Policy) (t : List ℕ) (right i : ℕ) (m : Matrix) → i ≡ 0
+    → replay_from (system_of p) right (tabulate (step_call t) (steps_in t - i) i) i (state_of m) ≡ replay_from (system_of p) right (calls t (steps_in t)) 0 (state_of m)
+replay_start p t right i m e = ap (λ (j : ℕ). replay_from (system_of p) right (tabulate (step_call t) (steps_in t - j) j) j (state_of m)) e ∙ rw sub-zero
 
 pub replay_end : (p : Policy) (t : List ℕ) (right n i : ℕ) (m : Matrix) (whole : Replay) → n ≤ i → replay_from (system_of p) right (tabulate (step_call t) (n - i) i) i (state_of m) ≡ whole → NoLeak ≡ whole
 unfolding replay_from

@@ -41,14 +41,11 @@ done_not n true e = let z : ◌≡◌ {A = ℕ} 0 1 = cc in omega arith
 done_not n false e = let z : ◌≡◌ {A = ℕ} 0 1 = cc in omega arith
 
 -- a list copied over the front of the part that begins at a place
-pub stored : (f s p : List ℕ) (at : ℕ) → at + length s ≤ length f → p ≡ take (length s) s ++ drop (length s) (take (length f - at) (drop at f))
-    → take at f ++ (p ++ drop (length f - at) (drop at f)) ≡ over f at s
-stored f s p at h e =
-    let k : length (drop at f) ≡ length f - at = length-drop at f in
-    let a : take (length f - at) (drop at f) ≡ drop at f = take_all (length f - at) (drop at f) (omega arith) in
-    let b : drop (length f - at) (drop at f) ≡ [] = drop_of_length-le (drop at f) {i = length f - at} (omega arith) in
-    let q : p ≡ s ++ drop (at + length s) f = e ∙ ap₂ (λ (x y : List ℕ). x ++ drop (length s) y) (take-length s) a ∙ ap (λ (x : List ℕ). s ++ x) (drop-drop (length s) at f) in
-    ap₂ (λ (x y : List ℕ). take at f ++ (x ++ y)) q b ∙ ap (λ (x : List ℕ). take at f ++ x) (append-nil (s ++ drop (at + length s) f)) ∙ sym (append_assoc (take at f) s (drop (at + length s) f))
+pub stored : (f s p : List ℕ) (at : ℕ) → p ≡ s → take at f ++ (p ++ drop (at + length s - at) (drop at f)) ≡ over f at s
+stored f s p at e =
+    let w : at + length s - at ≡ length s = omega arith in
+    ap₂ (λ (x : List ℕ) (k : ℕ). take at f ++ (x ++ drop k (drop at f))) e w ∙ ap (λ (x : List ℕ). take at f ++ (s ++ x)) (drop-drop (length s) at f)
+    ∙ sym (append_assoc (take at f) s (drop (at + length s) f))
 
 -- a list of sets written into a part of its own length that begins at a place
 pub stored_sets : (f s p : List ℕ) (at n : ℕ) → n ≡ at + set_bytes * length s → p ≡ bytes_of s → take at f ++ (p ++ drop (n - at) (drop at f)) ≡ over f at (bytes_of s)

@@ -13,7 +13,7 @@ use Rattle.closing.proofs.no_pair.Reads as no-pair-reads
 use Rattle.closing.proofs.pair_at.Reads as pair-at-reads
 use Rattle.rights.proofs.holds.Reads as holds-reads
 use Rattle.closing.proofs.first_pair.Goals as goal
-use Rattle.closing.proofs.first_pair.Goals.{else-holds, then-holds}
+use Rattle.closing.proofs.first_pair.Goals.{else-holds, then-holds+else-complete}
 
 -- src/lib.rt:298:5
 pub loop-cell-init : goal.loop-cell-init
@@ -41,7 +41,7 @@ loop-cell-smaller c = omega arith
 
 -- src/lib.rt:298:5
 pub loop-cell-preserved : goal.loop-cell-preserved
-loop-cell-preserved c = elim c.if-holds.branch [ then-holds w ↦ search cells_next | else-holds w ↦ search cells_lacks ]
+loop-cell-preserved c = elim c.if-holds.branch [ then-holds+else-complete w ↦ search cells_next | else-holds w ↦ search cells_lacks ]
 
 -- src/lib.rt:284:1
 pub returns : goal.returns

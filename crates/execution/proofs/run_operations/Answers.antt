@@ -1,3 +1,5 @@
+use mathlib.Core.Bool.{not}
+use mathlib.Core.Path.{ap}
 use Prim.Native.Nat.{◌≤◌, ◌-◌}
 use mathlib.Core.Path.{◌≡◌, refl}
 use Rattle.matrix.specs.Matrices.{matrix_of}
@@ -31,7 +33,7 @@ pub loop-j-smaller : goal.loop-j-smaller
 loop-j-smaller c = omega arith
 
 pub loop-j-preserved : goal.loop-j-preserved
-loop-j-preserved c = (omega arith, omega arith, going_more _ _ _ _ _ _ _ c.loop-j.invariant.2 (omega arith) c.operation_at-operation.result c.operation_at-operation.ensures _ c.can_do.ensures c.requires.1 c.if-not-can_do.false _ c.enters_new-leaked.ensures _ c.perform.ensures)
+loop-j-preserved c = (omega arith, omega arith, going_more _ _ _ _ _ _ _ c.loop-j.invariant.2 (omega arith) c.operation_at-operation.result c.operation_at-operation.ensures _ c.can_do.ensures c.requires.1 (ap not c.if-not-can_do.false) _ c.enters_new-leaked.ensures _ c.perform.ensures)
 
 pub returns : goal.returns
 returns c = search going_end

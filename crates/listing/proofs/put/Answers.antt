@@ -3,4 +3,4 @@ use borrow.Author.Rules.{rules}
 use Rattle.listing.proofs.put.Goals as goal
 
 pub returns : goal.returns
-returns c = search put_all
+returns c = put_all _ _ _ _ c.copy_from_slice.ensures.after

@@ -7,4 +7,4 @@ pub overflow_mul-c_end-2 : goal.overflow_mul-c_end-2
 overflow_mul-c_end-2 c = omega arith
 
 pub returns : goal.returns
-returns c = search matrix_is
+returns c = matrix_is _ _ _ _ _ c.requires c.word_at-k.ensures.0 c.word_at-c.ensures.0 c.copy_from_slice.ensures.after c.read_sets.ensures

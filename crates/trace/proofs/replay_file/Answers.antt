@@ -1,6 +1,5 @@
 use Rattle.policy.proofs.ReadPolicy.{policy_fits_read}
 use Rattle.trace.proofs.Replaying.{replay_bad_file, replay_21, replay_31, replay_whole}
-use borrow.Author.Rules.{rules}
 use Rattle.trace.proofs.replay_file.Goals as goal
 
 pub returns-then-refused-ne0 : goal.returns-then-refused-ne0

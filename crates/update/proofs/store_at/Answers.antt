@@ -3,4 +3,4 @@ use borrow.Author.Rules.{rules}
 use Rattle.update.proofs.store_at.Goals as goal
 
 pub returns : goal.returns
-returns c = search stored
+returns c = stored _ _ _ _ c.copy_from_slice.ensures.after

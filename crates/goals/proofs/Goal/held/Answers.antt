@@ -3,4 +3,4 @@ use borrow.Author.Rules.{rules}
 use Rattle.goals.proofs.Goal.held.Goals as goal
 
 pub returns : goal.returns
-returns c = search held_copied
+returns c = held_copied _ _ c.requires c.copy_from_slice.ensures.after
