@@ -1,4 +1,3 @@
-pub mod Again
 pub mod Asking
 pub mod Filling
 pub mod Promise

@@ -88,7 +88,7 @@ pub fn sheet_file(file: &[u8], sheet: &mut [Entry], buffer: &mut [u8]) -> u8
     0
 }
 
-// The first n of eight entries, answered as a sheet; the others as they were. It lends them as a slice, and so is proved by hand.
+// The first n of eight entries, answered as a sheet; the others as they were.
 fn answer_first(
     file: &[u8],
     mut entries: [Entry; Entry::SHEET],

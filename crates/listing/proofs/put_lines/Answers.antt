@@ -9,10 +9,7 @@ use Rattle.listing.specs.Writing.{Put}
 use borrow.Author.Rules.{rules}
 use native.Mathlib.Omega.{arith}
 use Rattle.listing.proofs.put_lines.Goals as goal
-
--- the branch gives the command's number of parameters
-parameters : (c : tie.Joined1 invariant-loop decreases-loop) → c.if1.k ≡ parameters_of c.before.before.before.before.before.before.args.t3 (get_or c.before.before.before.before.before.before.args.steps.now (5 * c.before.before.before.loop.i) 0)
-parameters c = ⊎_elim (λ w. w.2) (λ w. search no_parameters) c.if1.branch
+use Rattle.listing.proofs.put_lines.Goals.{then-command-lt-COMMANDS, else-command-lt-COMMANDS}
 
 pub loop-i-init : goal.loop-i-init
 loop-i-init c = (omega arith, omega arith, refl, search lines_start)
@@ -33,7 +30,10 @@ pub loop-i-smaller : goal.loop-i-smaller
 loop-i-smaller c = omega arith
 
 pub loop-i-preserved : goal.loop-i-preserved
-loop-i-preserved c = let z = parameters c.before in (omega arith, omega arith, omega arith, search lines_next)
+loop-i-preserved c =
+    -- the branch gives the command's number of parameters
+    let z : c.if-command-lt-COMMANDS.k ≡ parameters_of c.args.p (get_or c.args.steps.now (5 * c.loop-i.i) 0) = elim c.if-command-lt-COMMANDS.branch [ then-command-lt-COMMANDS w ↦ w.k-is | else-command-lt-COMMANDS w ↦ search no_parameters ] in
+    (omega arith, omega arith, omega arith, search lines_next)
 
 pub returns : goal.returns
 returns c = search lines_end
