@@ -8,7 +8,6 @@ use Rattle.trace.specs.declared.Replay.TheVariants.{NoLeak, Leak, Refused}
 use Rattle.safety.specs.Demand3.{steps_written}
 use Rattle.safety.specs.Judgement.{judgement_code, Judged}
 use Rattle.safety.specs.declared.Judgement.{Judgement}
-use Rattle.safety.specs.declared.Judgement.TheVariants.{Refused as Refuses, Safe, Unsafe}
 use Rattle.exports.specs.Replay.{ReplayAnswer}
 use Rattle.needs.specs.Needed.{file_need, need_code, steps_taken, Needed}
 use Rattle.needs.specs.declared.Need.{Need}

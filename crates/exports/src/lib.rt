@@ -1,4 +1,6 @@
 // The C boundary: numbers and byte slices, no `requires`. A slice is passed as a pointer and a length.
+#![tactic(auto)]
+
 ghost use Rattle.std.specs.Prelude.{◌≡◌, [], ◌∷◌, ◌++◌, ◌+◌, ◌*◌, ◌≤◌, ◌<◌, length, take, drop};
 ghost use Rattle.cases.specs.Cases.{tabulate};
 ghost use Rattle.policy.specs.Refusals.{refusal};

@@ -1,4 +1,6 @@
 // A sheet of questions (document 02, C-17): several rights judged on one file, each on its own part of the buffer; refusal 43.
+#![tactic(auto)]
+
 ghost use Rattle.std.specs.Prelude.{◌≡◌, List, ◌++◌, ℕ, ◌+◌, ◌*◌, ◌/◌, ◌^◌, ◌≤◌, ◌<◌, length, take, drop};
 ghost use Rattle.safety.specs.Demand3.{steps_written};
 ghost use Rattle.safety.specs.Conclusion.{PreparedOf};

@@ -1,5 +1,4 @@
 use Rattle.policy.proofs.Laws.{read_refusal}
-use borrow.Author.Rules.{rules}
 use Rattle.exports.proofs.access_check.Goals as goal
 
 pub returns : goal.returns

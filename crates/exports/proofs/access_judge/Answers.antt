@@ -1,5 +1,4 @@
 use Rattle.exports.proofs.Answers.{judge-answers}
-use borrow.Author.Rules.{rules}
 use Rattle.exports.proofs.access_judge.Goals as goal
 
 pub returns : goal.returns

@@ -1,5 +1,4 @@
 use Rattle.exports.proofs.Answers.{part-answers}
-use borrow.Author.Rules.{rules}
 use Rattle.exports.proofs.access_judge_part.Goals as goal
 
 pub returns : goal.returns

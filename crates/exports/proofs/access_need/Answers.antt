@@ -1,5 +1,4 @@
 use Rattle.exports.proofs.Answers.{need-refuses, need-holds, need_never}
-use borrow.Author.Rules.{rules}
 use Rattle.exports.proofs.access_need.Goals as goal
 
 pub returns-in-Refused : goal.returns-in-Refused

@@ -1,5 +1,4 @@
 use Rattle.exports.proofs.Answers.{no_leak, leak, refusal}
-use borrow.Author.Rules.{rules}
 use Rattle.exports.proofs.access_replay.Goals as goal
 
 pub returns-in-NoLeak : goal.returns-in-NoLeak

@@ -1,5 +1,4 @@
 use Rattle.exports.proofs.Entries.{entries_refused, entries_few, entries_eight, entries_inside, entries_answered}
-use borrow.Author.Rules.{rules}
 use Rattle.exports.proofs.access_sheet.Goals as goal
 
 pub returns-then-refused-ne0 : goal.returns-then-refused-ne0

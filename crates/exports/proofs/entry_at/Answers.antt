@@ -1,5 +1,4 @@
 use Rattle.exports.proofs.Entries.{no_entry}
-use borrow.Author.Rules.{rules}
 use Rattle.exports.proofs.entry_at.Goals as goal
 
 pub returns : goal.returns

@@ -1,5 +1,4 @@
 use Rattle.exports.proofs.Entries.{four_stored}
-use borrow.Author.Rules.{rules}
 use Rattle.exports.proofs.write_entry.Goals as goal
 
 pub returns : goal.returns

@@ -1,7 +1,7 @@
 use mathlib.Core.Logic.{⊎_elim}
 use Rattle.listing.proofs.Lines.{no_parameters, lines_start, lines_next, lines_end}
 use Prim.Native.Nat.{◌+◌, ◌*◌, ◌-◌, ◌≤◌}
-use mathlib.Core.Path.{◌≡◌, refl}
+use mathlib.Core.Path.{◌≡◌, refl, ◌∙◌}
 use lib.ListN.{length, get_or}
 use Rattle.trace.specs.Traces.{calls}
 use Rattle.listing.specs.Listing.{parameters_of, lines}
@@ -32,7 +32,7 @@ loop-i-smaller c = omega arith
 pub loop-i-preserved : goal.loop-i-preserved
 loop-i-preserved c =
     -- the branch gives the command's number of parameters
-    let z : c.if-command-lt-COMMANDS.k ≡ parameters_of c.args.p (get_or c.args.steps.now (5 * c.loop-i.i) 0) = elim c.if-command-lt-COMMANDS.branch [ then-command-lt-COMMANDS w ↦ w.k-is | else-command-lt-COMMANDS w ↦ search no_parameters ] in
+    let z : c.if-command-lt-COMMANDS.k ≡ parameters_of c.args.p (get_or c.args.steps.now (5 * c.loop-i.i) 0) = elim c.if-command-lt-COMMANDS.branch [ then-command-lt-COMMANDS w ↦ w.k-is | else-command-lt-COMMANDS w ↦ no_parameters c.args.p _ _ c.well_formed.1.1.0.1.1.1.1.1.1.1.1.0.1.0.1 w.if-command-lt-COMMANDS.false w.k-is ] in
     (omega arith, omega arith, omega arith, search lines_next)
 
 pub returns : goal.returns

@@ -1,5 +1,4 @@
 use Prim.Native.Nat.{◌*◌}
-use borrow.Author.Rules.{rules}
 use Rattle.sheets.proofs.Asking.{asked_count, asked}
 use Rattle.sheets.proofs.ask.Goals as goal
 

@@ -1,5 +1,4 @@
 use Rattle.sheets.proofs.Asking.{entry_refused, entry_safe, entry_unsafe, safe_count, unsafe_count}
-use borrow.Author.Rules.{rules}
 use Rattle.sheets.proofs.entry_of.Goals as goal
 
 pub overflow_cast-result : goal.overflow_cast-result

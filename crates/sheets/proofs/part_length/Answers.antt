@@ -1,5 +1,4 @@
 use Rattle.sheets.proofs.Asking.{no_parts}
-use borrow.Author.Rules.{rules}
 use Rattle.sheets.proofs.part_length.Goals as goal
 
 pub returns-then-n-eq0 : goal.returns-then-n-eq0

@@ -1,5 +1,4 @@
 use Rattle.sheets.proofs.Promise.{first_refused, first_answered}
-use borrow.Author.Rules.{rules}
 use Rattle.sheets.proofs.sheet_of.Goals as goal
 
 pub returns-then-n-gt-SHEET : goal.returns-then-n-gt-SHEET
