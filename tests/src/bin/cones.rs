@@ -4,6 +4,7 @@
 use reference::report::{Arguments, Report};
 use std::collections::BTreeSet;
 use std::fs;
+use std::path::Path;
 
 const CRATES: &str = "../crates";
 const PAGE: &str = "../docs/PROVED.md";
@@ -84,11 +85,10 @@ fn imported(line: &str) -> Option<(String, Vec<String>)> {
     let line = line
         .trim_start_matches("ghost ")
         .trim_start_matches("pub ")
-        .strip_prefix("use Rattle·")?;
+        .strip_prefix("use Rattle.")?;
     let (module, names) = line.split_once(".{").unwrap_or((line, ""));
     let (home, file) = module.split_once(".specs.")?;
-    let home = home.trim_end_matches("·specs");
-    if file.starts_with("declared") {
+    if file.starts_with("declared") || !Path::new(CRATES).join(home).exists() {
         return None;
     }
     let names = names
@@ -98,17 +98,17 @@ fn imported(line: &str) -> Option<(String, Vec<String>)> {
     Some((format!("{home}/specs/{file}.antt"), names))
 }
 
-/// The `ensures` of a function of a source file.
+/// The `ensures` of a function of a source file: all of them, as far as its body.
 fn contract(source: &str, function: &str) -> String {
     let head = source
         .find(&format!("fn {function}("))
         .unwrap_or_else(|| panic!("no function {function}"));
     let clause = &source[head..];
-    let from = clause
+    let to = clause.find("\n{\n").expect("a function has a body");
+    let from = clause[..to]
         .find("ensures")
         .unwrap_or_else(|| panic!("{function} promises nothing"));
-    let to = clause[from..].find("⌝ }\n").expect("a clause ends");
-    clause[from..from + to].to_string()
+    clause[from..to].to_string()
 }
 
 fn is_word(text: &str, name: &str) -> bool {

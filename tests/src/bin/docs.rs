@@ -414,7 +414,11 @@ fn list_length(group: &mut Group) {
 /// README says how many crates a build proves: the library and what it stands on.
 fn crates_of_a_build(group: &mut Group) {
     let listed = page("crates.txt");
-    let lines: Vec<(&str, &str)> = listed.lines().filter_map(|l| l.split_once(':')).collect();
+    let lines: Vec<(&str, &str)> = listed
+        .lines()
+        .filter_map(|line| line.split_once(':'))
+        .map(|(head, needs)| (head.split(' ').next().unwrap_or_default(), needs))
+        .collect();
     let mut all = vec!["exports"];
     let mut at = 0;
     while let Some(&one) = all.get(at) {
