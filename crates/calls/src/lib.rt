@@ -1,4 +1,6 @@
 // A step that is looked for on one cell, among the calls of all commands: on the matrix as it is, and on the matrix without the right in the cell.
+#![tactic(auto)]
+
 ghost use Rattle.std.specs.Prelude.{◌≡◌, ◌<◌};
 ghost use Rattle.std.proofs.Math.Option.{none};
 ghost use Rattle.protection.specs.Limits.{names, rights, commands};

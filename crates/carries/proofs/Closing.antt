@@ -1,5 +1,5 @@
 -- Carrying through further rights, link by link: what the loops of the closure keep. Assumes nothing.
-use Prim.Native.Nat.{ℕ, zero, suc, ◌+◌, ◌-◌, ◌^◌, ◌≤◌, ◌<◌}
+use Prim.Native.Nat.{ℕ, zero, suc, ◌+◌, ◌^◌, ◌≤◌, ◌<◌}
 use mathlib.Core.Path.{◌≡◌, refl, sym, ap, ap₂, ◌∙◌, subst}
 use mathlib.Core.Bool.{Bool, true, false, ◌&&◌, ◌||◌}
 use mathlib.Core.List.{List}
@@ -9,11 +9,11 @@ use native.Mathlib.Numerals.{add-one}
 use native.Mathlib.Omega.{arith}
 use borrow.Author.Tests.{lt-ltb, le-ltb}
 use lib.Bits.{bit_or, or_lt}
-use lib.Dec.{T, eqb, ltb}
+use lib.Dec.{T, eqb}
 use lib.ListN.{length, get_or, set, get_or-eq_default}
 use lib.Pow.{pow_pos}
-use Rattle.cases.specs.Cases.{any, tabulate}
-use Rattle.cases.proofs.Bools.{or_cases, or_left, or_right, and_left, same_truth}
+use Rattle.cases.specs.Cases.{any}
+use Rattle.cases.proofs.Bools.{or_cases, or_left, or_right, same_truth}
 use Rattle.cases.proofs.Loops.{any_one, any_intro, any_same, any_none}
 use Rattle.cases.proofs.Lists.{length_tabulate, tabulate_same}
 use Rattle.rights.specs.Rights.{has, insert, number}

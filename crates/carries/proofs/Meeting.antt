@@ -1,9 +1,9 @@
 -- What the closed sets tell: which right carries which, and what a set of rights meets. Assumes nothing.
-use Prim.Native.Nat.{ℕ, zero, suc, ◌+◌, ◌^◌, ◌≤◌, ◌<◌}
-use mathlib.Core.Path.{◌≡◌, refl, sym, ap, ap₂, ◌∙◌, subst}
-use mathlib.Core.Bool.{Bool, true, false, not, ◌&&◌, ◌||◌}
+use Prim.Native.Nat.{ℕ, ◌^◌, ◌≤◌, ◌<◌}
+use mathlib.Core.Path.{◌≡◌, refl, sym, ap, ◌∙◌, subst}
+use mathlib.Core.Bool.{Bool, true, false, not, ◌&&◌}
 use mathlib.Core.List.{List, []}
-use mathlib.Core.Logic.{◌⊎◌, inl, inr, ⊎_elim}
+use mathlib.Core.Logic.{◌⊎◌, ⊎_elim}
 use native.Mathlib.Decide.{ℕ_discrete}
 use native.Mathlib.Omega.{arith}
 use borrow.Author.Tests.{eq-eqb, ne_eqb}
@@ -19,7 +19,7 @@ use Rattle.rights.specs.Rights.{has, number}
 use Rattle.rights.proofs.Sets.{has_and, has_none, has_number, number_below, number_within, same_rights}
 use Rattle.protection.specs.Limits.{rights}
 use Rattle.protection.specs.Command.{System}
-use Rattle.protection.specs.Carrying.{Carries, chained, carries, meets}
+use Rattle.protection.specs.Carrying.{chained, carries, meets}
 use Rattle.protection.proofs.Carrying.{carries_exactly, carries_below, meets_exactly}
 use Rattle.carries.specs.Bytes.{carried_in}
 use Rattle.carries.specs.Meeting.{MetBy}

@@ -1,17 +1,11 @@
 -- Arrays and sets that a loop fills. Assumes nothing.
-use Prim.Native.Nat.{ℕ, zero, suc, ◌+◌, ◌^◌, ◌≤◌, ◌<◌}
-use mathlib.Core.Path.{◌≡◌, refl, sym, ap, ◌∙◌}
-use mathlib.Core.Bool.{Bool, true, false, ◌&&◌, ◌||◌}
-use mathlib.Core.List.{List}
-use native.Mathlib.Decide.{dec_lt, ℕ_discrete}
-use native.Mathlib.Numerals.{add-one}
-use native.Mathlib.Omega.{arith}
+use Prim.Native.Nat.{ℕ, ◌^◌, ◌<◌}
+use mathlib.Core.Path.{◌≡◌, refl, sym, ◌∙◌}
+use mathlib.Core.Bool.{Bool}
+use native.Mathlib.Decide.{ℕ_discrete}
 use borrow.Author.Tests.{eq-eqb, ne_eqb}
 use lib.Dec.{eqb}
-use lib.ListN.{length, get_or, set, length-set}
-use lib.Seq.{ext_get_or, get_or-set_same, get_or-set_other}
-use Rattle.cases.specs.Cases.{tabulate}
-use Rattle.cases.proofs.Lists.{length_tabulate, get_d_tabulate}
+use lib.ListN.{set}
 use Rattle.rights.specs.Rights.{has, insert, number}
 use Rattle.rights.proofs.Sets.{has_number, number_below, same_rights, has_none, has_insert_same, has_insert_other}
 use Rattle.protection.specs.Limits.{rights}

@@ -1,5 +1,7 @@
 // Rights that carry others (document 02, C-19): refusal 44, and carrying through further rights, computed once for a file.
 // Of each right the set of rights that it carries, or of those that carry it.
+#![tactic(auto)]
+
 ghost use Rattle.std.specs.Prelude.{◌≡◌, List, ℕ, suc, ◌≤◌, ◌<◌, get_or};
 ghost use Rattle.rights.specs.Rights.{has, number};
 ghost use Rattle.protection.specs.Limits.{rights};

@@ -1,1 +1,2 @@
 // Cases of rights that carry others, proved: specs/ and proofs/ alone.
+#![tactic(auto)]

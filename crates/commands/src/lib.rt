@@ -1,4 +1,6 @@
 // A command (document 01: a rule) and its reader.
+#![tactic(auto)]
+
 ghost use Rattle.std.specs.Prelude.{◌≡◌, ◌⊎◌, ◌+◌, ◌*◌, ◌≤◌, ◌<◌, length, take, drop};
 ghost use Rattle.protection.specs.Limits.{rights, conditions, operations};
 ghost use Rattle.cases.specs.Cases.{all, tabulate};

@@ -1,1 +1,2 @@
 // The table of cases, proved: specs/ and proofs/ alone.
+#![tactic(auto)]

@@ -1,4 +1,6 @@
 // Running a command (document 01: a rule) on lent kinds and cells, and on a matrix by value; refusals 11 to 15.
+#![tactic(auto)]
+
 ghost use Rattle.std.specs.Prelude.{◌≡◌};
 ghost use Rattle.protection.specs.Limits.{rights};
 ghost use Rattle.matrix.specs.Canonical.{Canonical};

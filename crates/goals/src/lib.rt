@@ -1,4 +1,6 @@
 // What ends the rounds: an enter of a judged right, or a matrix that holds all cells of a list (document 02, C-14).
+#![tactic(auto)]
+
 ghost use Rattle.std.specs.Prelude.{◌≡◌, ◌*◌, ◌≤◌, length};
 ghost use Rattle.protection.specs.Need.{holds_all};
 ghost use Rattle.matrix.specs.Bytes.{view, rights_in};

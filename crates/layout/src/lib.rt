@@ -1,4 +1,6 @@
 // Where a file holds what: its first bytes and its table of pairs.
+#![tactic(auto)]
+
 ghost use Rattle.std.specs.Prelude.{◌≡◌, ◌+◌, ◌*◌, ◌≤◌, ◌<◌, length};
 ghost use Rattle.layout.specs.File.{words, word, rights_of, pairs_of, fixed_pairs};
 ghost use Rattle.layout.specs.Refusals.{header_refusal, pairs_refusal, sizes_refusal};

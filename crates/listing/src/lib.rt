@@ -1,4 +1,6 @@
 // The printed answer, as bytes in a lent buffer.
+#![tactic(auto)]
+
 ghost use Rattle.std.specs.Prelude.{◌≡◌, [], ◌∷◌, ◌++◌, ◌+◌, ◌*◌, ◌≤◌, ◌<◌, length, take};
 ghost use Rattle.listing.specs.Listing.{unsafe_word, decimal, spaced, head, line, lines, printed, buffer_bytes, listing};
 ghost use Rattle.listing.specs.Writing.{Put, PutWithin, number_bytes, actual_bytes, line_bytes, shown_actual, Room, listing_bytes, Answered};

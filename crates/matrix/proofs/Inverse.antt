@@ -7,12 +7,12 @@ use mathlib.Core.List.{List}
 use native.Mathlib.Decide.{dec_lt}
 use native.Mathlib.Nat.{le_trans, pow-le-pow_right}
 use native.Mathlib.Omega.{arith}
-use lib.Dec.{T, T_not, not_T}
+use lib.Dec.{T, T_not}
 use lib.ListN.{length, get_or, get_or-eq_default}
 use lib.Pow.{pow_pos}
 use lib.Seq.{ext_get_or}
 use Rattle.cases.specs.Cases.{tabulate}
-use Rattle.cases.proofs.Bools.{and_left, and_right, and_intro, both, is_false, same_truth}
+use Rattle.cases.proofs.Bools.{and_left, and_right, and_intro, both, same_truth}
 use Rattle.cases.proofs.Lists.{length_tabulate, get_d_tabulate}
 use Rattle.rights.specs.Rights.{has, number}
 use Rattle.rights.proofs.Sets.{has_below, has_none, has_number, number_below, number_has, number_same, number_within}

@@ -1,5 +1,5 @@
 -- What the methods of `Matrix` leave, seen as a state, is what the model's operations leave; and it stays canonical. Assumes nothing.
-use Prim.Native.Nat.{ℕ, zero, suc, ◌+◌, ◌*◌, ◌-◌, ◌/◌, ◌%◌, ◌^◌, ◌≤◌, ◌<◌}
+use Prim.Native.Nat.{ℕ, suc, ◌*◌, ◌-◌, ◌/◌, ◌%◌, ◌^◌, ◌≤◌, ◌<◌}
 use mathlib.Core.Path.{◌≡◌, refl, sym, ap, ap₂, ◌∙◌, subst}
 use mathlib.Core.Bool.{Bool, true, false, not, ◌&&◌, ◌||◌}
 use mathlib.Core.List.{List}
@@ -7,7 +7,7 @@ use mathlib.Core.Logic.{◌⊎◌, inl, inr, ⊎_elim}
 use native.Mathlib.Decide.{dec_lt, ℕ_discrete}
 use native.Mathlib.Omega.{arith}
 use borrow.Author.Tests.{eq-eqb, ne_eqb}
-use lib.Dec.{T, eqb, eqb→eq, eqb_refl, T_not, not_T}
+use lib.Dec.{T, eqb, eqb→eq, eqb_refl, T_not}
 use lib.ListN.{length, get_or, set, length-set, get_or-eq_default}
 use lib.Pow.{pow_pos}
 use lib.Seq.{get_or-set_same, get_or-set_other}
@@ -16,11 +16,11 @@ use Rattle.cases.proofs.Bools.{and_left, and_right, and_intro, or_cases, or_left
 use Rattle.cases.proofs.Loops.{iterate_end, iterate_count}
 use Rattle.rights.specs.Rights.{has, insert, delete}
 use Rattle.rights.proofs.Sets.{has_insert_same, has_insert_other, has_delete_same, has_delete_other, has_none, insert_below, delete_below, delete_none}
-use Rattle.protection.specs.Limits.{names, rights}
-use Rattle.protection.specs.State.{Kind, is_object, is_subject, State}
+use Rattle.protection.specs.Limits.{names}
+use Rattle.protection.specs.State.{Kind, is_object, is_subject}
 use Rattle.protection.specs.Paper.{subject_is_object}
 use Rattle.protection.specs.Execution.{same_cell, put, take_out, renew}
-use Rattle.matrix.specs.Bytes.{kind_of, inside, rights_in, view}
+use Rattle.matrix.specs.Bytes.{kind_of, inside, rights_in}
 use Rattle.matrix.specs.Matrices.{matrix_of, state_of, place, entered, deleted, emptied, renewed}
 use Rattle.matrix.specs.declared.Matrix.{Matrix}
 use Rattle.matrix.specs.Canonical.{Canonical}

@@ -1,4 +1,6 @@
 // The access matrix as a struct by value.
+#![tactic(auto)]
+
 ghost use Rattle.std.specs.Prelude.{◌≡◌, ◌<◌};
 ghost use Rattle.protection.specs.Limits.{names, rights};
 ghost use Rattle.protection.specs.State.{is_object, is_subject};

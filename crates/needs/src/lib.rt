@@ -1,4 +1,6 @@
 // What a press needs (document 02, C-14): the judge's steps up to the first matrix that holds all cells of a list; refusal 41.
+#![tactic(auto)]
+
 ghost use Rattle.std.specs.Prelude.{◌≡◌, [], ◌+◌, ◌*◌, ◌/◌, ◌≤◌, length, get_or};
 ghost use Rattle.cases.specs.Cases.{tabulate};
 ghost use Rattle.protection.specs.Limits.{names};

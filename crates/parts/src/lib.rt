@@ -1,4 +1,6 @@
 // Trusted hands left out (document 02, C-15): the judge of the part that stays when the names of a list are dropped; refusal 42.
+#![tactic(auto)]
+
 ghost use Rattle.std.specs.Prelude.{◌≡◌, [], ◌<◌, length};
 ghost use Rattle.rights.specs.Rights.{has, insert};
 ghost use Rattle.protection.specs.Limits.{names};

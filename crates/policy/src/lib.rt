@@ -1,4 +1,6 @@
 // The whole file: its matrix, what its rights carry and its commands, read or refused (document 01, refusals 1 to 9; document 02, C-19, 44).
+#![tactic(auto)]
+
 ghost use Rattle.std.specs.Prelude.{◌≡◌, ◌+◌, ◌*◌, ◌≤◌, ◌<◌, length, get_or};
 ghost use Rattle.protection.specs.Limits.{commands};
 ghost use Rattle.layout.specs.File.{rights_of, carries_in, command_in};

@@ -5,7 +5,7 @@ use mathlib.Core.List.{List, [], ◌∷◌}
 use Prim.Native.Nat.{ℕ}
 use Rattle.cases.specs.Cases.{iterate, all, any}
 use Rattle.protection.specs.State.{subject, State}
-use Rattle.protection.specs.Command.{enter, delete, System, Call}
+use Rattle.protection.specs.Command.{enter, delete, System}
 use Rattle.protection.specs.Carrying.{chained, meets}
 use Rattle.protection.specs.Execution.{unbounded, refused, execute}
 use Rattle.protection.specs.Leak.{is_refused, leaks, any_refused}

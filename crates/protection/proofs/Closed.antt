@@ -1,16 +1,16 @@
 -- A saturated state that holds the right only where the start did, and in which it can nowhere be deleted and entered again: no run from the start leaks r.
 -- Assumes nothing.
-use mathlib.Core.Path.{◌≡◌, refl, sym, ap, subst}
+use mathlib.Core.Path.{◌≡◌, refl, sym, ap}
 use mathlib.Core.Bool.{Bool, true, false, not, ◌&&◌, ◌||◌}
 use mathlib.Core.List.{List, [], ◌∷◌}
 use mathlib.Core.Logic.{◌⊎◌, inl, inr, ⊎_elim}
 use Prim.Native.Nat.{ℕ}
-use lib.Dec.{T, eqb, eqb→eq, eqb_refl, T_not, not_T}
+use lib.Dec.{T, eqb, eqb→eq, T_not, not_T}
 use Rattle.cases.specs.Cases.{pick}
-use Rattle.cases.proofs.Bools.{and_left, and_right, and_intro, both, or_cases, or_right, is_false}
+use Rattle.cases.proofs.Bools.{and_left, and_right, and_intro, both, or_cases, or_right}
 use Rattle.protection.specs.State.{Kind, absent, object, subject, is_object, is_subject, State, object_in, subject_in}
-use Rattle.protection.specs.Command.{Condition, Operation, enter, delete, create_subject, create_object, destroy_subject, destroy_object, Command, System, Call, Actuals, actuals}
-use Rattle.protection.specs.Execution.{unbounded, holds, hold_all, can_do, same_cell, put, take_out, renew, effect, enters_new, Outcome, done, execute}
+use Rattle.protection.specs.Command.{Operation, enter, delete, create_subject, create_object, destroy_subject, destroy_object, Command, System, Call, Actuals, actuals}
+use Rattle.protection.specs.Execution.{unbounded, can_do, same_cell, put, take_out, renew, effect, enters_new, Outcome, done, execute}
 use Rattle.protection.specs.Leak.{after, is_leak, leaks}
 use Rattle.protection.specs.Judge.{operation_in}
 use Rattle.protection.specs.Paper.{subject_is_object}

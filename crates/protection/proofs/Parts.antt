@@ -1,34 +1,32 @@
 -- The judge of a part (document 02, C-15): its steps are a run on the whole as well, and leak there at the last step and nowhere sooner. Assumes nothing.
-use mathlib.Core.Path.{◌≡◌, refl, sym, ap, ap₂, ◌∙◌, subst, fun_ext}
+use mathlib.Core.Path.{◌≡◌, refl, sym, ap, ◌∙◌, subst, fun_ext}
 use mathlib.Core.Bool.{Bool, true, false, not, ◌&&◌, ◌||◌}
 use mathlib.Core.List.{List, [], ◌∷◌, ◌++◌}
-use mathlib.Core.Logic.{⊎_elim}
 use mathlib.Core.Option.{Option, none, some, none-ne-some}
 use Prim.Native.Nat.{ℕ, zero, suc, ◌+◌, ◌*◌, ◌/◌, ◌%◌, ◌≤◌, ◌<◌}
 use native.Mathlib.Omega.{arith}
 use native.Mathlib.Nat.{div-lt_iff_lt-mul, mod-lt, zero-add, mul-zero}
 use borrow.Author.Tests.{lt-ltb}
-use lib.Dec.{T, eqb, ltb, eqb→eq, eqb_refl, T_not, not_T}
+use lib.Dec.{T, eqb, ltb, eqb→eq, eqb_refl, T_not}
 use lib.ListN.{get_or, get_elem?}
-use Rattle.cases.specs.Cases.{pick, iterate, tabulate}
-use Rattle.cases.proofs.Bools.{and_left, and_right, and_intro, both, or_cases, is_false, is_true}
+use Rattle.cases.specs.Cases.{pick, iterate}
+use Rattle.cases.proofs.Bools.{and_left, and_right, and_intro, both, is_false, is_true}
 use Rattle.cases.proofs.Lists.{found_tabulate}
 use Rattle.protection.specs.Limits.{names, parameters, unused}
 use Rattle.protection.specs.State.{Kind, absent, object, subject, is_object, is_subject, State, object_in, subject_in}
 use Rattle.protection.specs.Command.{Condition, Operation, enter, delete, create_subject, create_object, destroy_subject, destroy_object, Command, System, Call, Actuals, actuals, in_operation, spare}
 use Rattle.protection.specs.Carrying.{meets}
-use Rattle.protection.specs.Execution.{bounded, unbounded, holds, hold_all, can_do, same_cell, put, take_out, renew, effect, enters_new, refused, done, execute}
+use Rattle.protection.specs.Execution.{bounded, holds, hold_all, can_do, same_cell, put, take_out, renew, effect, enters_new, refused, done, execute}
 use Rattle.protection.specs.Size.{step_bound}
-use Rattle.protection.specs.Leak.{LeaksLast}
-use Rattle.protection.specs.Judge.{Choice, weight, names_at, first_in, none_reserved, lowest_free, creates, is_create, operation_in, choice, choices, places_of, four_of, call_at, leak_of, leak_beside, Progress, opened, allowed, wanted, visit, try_command, all_rounds, deletes_at, enters_at, takes, returns, first_call, both as both-calls, pair_at, is_empty, closing, Verdict, judge_beside}
+use Rattle.protection.specs.Judge.{Choice, weight, names_at, first_in, none_reserved, lowest_free, creates, is_create, operation_in, choice, choices, places_of, call_at, leak_of, leak_beside, Progress, opened, allowed, wanted, visit, try_command, all_rounds, deletes_at, enters_at, takes, returns, first_call, both as both-calls, pair_at, is_empty, closing, Verdict, judge_beside}
 use Rattle.protection.specs.Part.{without}
 use Rattle.protection.specs.Paper.{subject_is_object}
 use Rattle.protection.proofs.Carrying.{meets_congruent}
-use Rattle.protection.proofs.Calls.{Single, Singles, Carried, ready, operation_below, one_named, carried_small, call_cases, call_done}
+use Rattle.protection.proofs.Calls.{Single, Singles, Carried, operation_below, one_named, carried_small, call_cases, call_done}
 use Rattle.protection.proofs.Spare.{operation_used}
 use Rattle.protection.proofs.First.{first_passes}
 use Rattle.protection.proofs.Invariant.{Goes, stays, more}
-use Rattle.protection.proofs.Rounds.{visit_cases, stepped, by_rounds}
+use Rattle.protection.proofs.Rounds.{visit_cases, by_rounds}
 use Rattle.protection.proofs.ClosingSearch.{Hit, call_hit, sought_parts}
 
 -- ---- a part beside its whole: where names are not dropped they say the same, and a dropped name is absent in the part

@@ -1,17 +1,15 @@
 -- Readings of document 01 that no code of this crate computes, each on a system of a few commands, by computation. Assumes nothing.
 use Prim.Native.Nat.{ℕ}
 use mathlib.Core.Path.{◌≡◌, refl, sym, ap, ◌∙◌}
-use mathlib.Core.Bool.{Bool, true, false, ◌&&◌, ◌||◌}
+use mathlib.Core.Bool.{Bool, true, false}
 use mathlib.Core.List.{List, [], ◌∷◌}
 use native.Mathlib.Omega.{arith}
-use lib.Dec.{T, eqb}
-use lib.ListN.{get_or}
+use lib.Dec.{eqb}
 use Rattle.cases.specs.Cases.{iterate, all, any}
-use Rattle.protection.specs.Limits.{unused}
-use Rattle.protection.specs.State.{Kind, absent, object, subject, State}
-use Rattle.protection.specs.Command.{Condition, Operation, enter, delete, create_subject, create_object, destroy_subject, destroy_object, Command, System, Call}
+use Rattle.protection.specs.State.{absent, object, subject, State}
+use Rattle.protection.specs.Command.{Operation, enter, delete, create_subject, create_object, destroy_subject, destroy_object, System, Call}
 use Rattle.protection.specs.Carrying.{meets}
-use Rattle.protection.specs.Execution.{bounded, unbounded, Outcome, refused, execute}
+use Rattle.protection.specs.Execution.{bounded, unbounded, refused, execute}
 use Rattle.protection.specs.Leak.{is_refused, leaks, any_refused, LeaksLast}
 use Rattle.protection.specs.Size.{count}
 use Rattle.protection.specs.Judge.{lowest_free, places_of, rounds, all_rounds, judge_beside, judge}

@@ -1,6 +1,6 @@
 -- A command sees of its actuals what its conditions and operations name: calls that differ in spare parameters alone come to the same, on names with and
 -- without a bound. Assumes nothing.
-use mathlib.Core.Path.{◌≡◌, refl, sym, ap, ap₂, ◌∙◌}
+use mathlib.Core.Path.{◌≡◌, refl, ap, ap₂, ◌∙◌}
 use mathlib.Core.Bool.{Bool, true, false, not, ◌&&◌, ◌||◌}
 use mathlib.Core.List.{List, [], ◌∷◌}
 use mathlib.Core.Option.{Option, none, some}
@@ -17,7 +17,7 @@ use Rattle.protection.specs.Limits.{parameters, unused}
 use Rattle.protection.specs.State.{State, subject_in, object_in}
 use Rattle.protection.specs.Command.{Condition, Operation, enter, delete, create_subject, create_object, destroy_subject, destroy_object, Command, System, Call, Actuals, actuals, in_conditions, in_operation, in_operations, named, spare, DifferInSpare}
 use Rattle.protection.specs.Carrying.{meets}
-use Rattle.protection.specs.Execution.{holds, hold_all, actual_fits, can_do, put, take_out, effect, enters_new, can_do_all, effect_all, enters_any_new, Outcome, done, gate, execute_command, execute}
+use Rattle.protection.specs.Execution.{hold_all, actual_fits, can_do, put, take_out, effect, enters_new, can_do_all, effect_all, enters_any_new, Outcome, done, gate, execute_command, execute}
 
 -- ---- what names a parameter is not spare
 pub named_used : (C : Command) (b : ℕ) → T (named C b) → T (not (spare C b))

@@ -1,12 +1,12 @@
 -- Trusted hands left out (document 02, C-15): an unsafe part is an unsafe whole, by the part's own steps. Assumes nothing.
 use mathlib.Core.Path.{◌≡◌, refl}
 use mathlib.Core.Bool.{Bool, true, false, not, ◌&&◌, ◌||◌}
-use Prim.Native.Nat.{ℕ, ◌+◌, ◌*◌, ◌≤◌}
+use Prim.Native.Nat.{ℕ, ◌+◌, ◌≤◌}
 use native.Mathlib.Omega.{arith}
 use native.Mathlib.Nat.{le_trans, mul-le-mul_left, mul-le-mul}
 use lib.Dec.{T}
 use Rattle.cases.specs.Cases.{pick}
-use Rattle.cases.proofs.Bools.{and_left, and_right}
+use Rattle.cases.proofs.Bools.{and_right}
 use Rattle.protection.specs.Limits.{names}
 use Rattle.protection.specs.State.{Kind, absent, is_object, is_subject, State, object_in, subject_in}
 use Rattle.protection.specs.Proper.{Proper}

@@ -7,7 +7,6 @@ use native.Mathlib.Decide.{ℕ_discrete}
 use native.Mathlib.Omega.{arith}
 use lib.ListN.{length, get_or, set, length-set, get_or-eq_default}
 use lib.Seq.{ext_get_or, get_or-set_same, get_or-set_other}
-use Rattle.cases.specs.Cases.{tabulate}
 use Rattle.cases.proofs.Lists.{length_tabulate}
 use Rattle.cases.proofs.Filling.{Filling, filling_start, filling_more, filling_end, get_or_table}
 use Rattle.rights.specs.Bytes.{set_bytes, byte_values, set_in, sets_in, bytes_of}

@@ -1,11 +1,10 @@
 -- The laws of a set of rights held in a number, at any width. Assumes nothing.
-use Prim.Native.Nat.{ℕ, zero, suc, ◌+◌, ◌-◌, ◌*◌, ◌/◌, ◌%◌, ◌^◌, ◌≤◌, ◌<◌, min, max}
-use mathlib.Core.Path.{◌≡◌, refl, sym, ap, ap₂, ◌∙◌, subst}
+use Prim.Native.Nat.{ℕ, zero, suc, ◌+◌, ◌*◌, ◌/◌, ◌%◌, ◌^◌, ◌≤◌, ◌<◌, min, max}
+use mathlib.Core.Path.{◌≡◌, refl, sym, ap, ap₂, ◌∙◌}
 use mathlib.Core.Bool.{Bool, true, false, ◌&&◌, ◌||◌}
-use native.Mathlib.Nat.{div-eq_of_lt, div-div-eq-div-mul, pow-succ', div-lt_iff_lt-mul, pow-le-pow_right, le_trans, div-one, pow-zero}
+use native.Mathlib.Nat.{div-eq_of_lt, div-div-eq-div-mul, pow-succ', div-lt_iff_lt-mul, pow-le-pow_right, le_trans, div-one}
 use native.Mathlib.Decide.{dec_lt, ℕ_discrete}
 use native.Mathlib.Omega.{arith}
-use borrow.Author.Tests.{eq-eqb, ne_eqb, eqb-true, eqb-false}
 use lib.Bits.{bit_and, bit_or, or_lt, xor_lt}
 use lib.Dec.{T, eqb, lit<}
 use lib.Pow.{pow_pos, pow-lt}

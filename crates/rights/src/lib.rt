@@ -1,4 +1,6 @@
 // A set of rights in one number: bit i, worth 2 to the power i, is right i.
+#![tactic(auto)]
+
 ghost use Rattle.std.specs.Prelude.{◌≡◌, ◌<◌, ◌≤◌, ◌^◌, ltb};
 ghost use Rattle.rights.specs.Rights.{width, has, insert, delete, within};
 

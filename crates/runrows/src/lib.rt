@@ -1,1 +1,2 @@
 // Cases of rule runs and replays, proved: specs/ and proofs/ alone.
+#![tactic(auto)]

@@ -1,1 +1,2 @@
 // Document 01's own cases, proved: specs/ and proofs/ alone.
+#![tactic(auto)]

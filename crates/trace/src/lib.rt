@@ -1,4 +1,6 @@
 // Traces and their replay; refusals 21 and 31.
+#![tactic(auto)]
+
 ghost use Rattle.std.specs.Prelude.{◌≡◌, ◌+◌, ◌*◌, ◌^◌, ◌≤◌, ◌<◌, length};
 ghost use Rattle.protection.specs.Limits.{rights};
 ghost use Rattle.policy.specs.Contents.{system_of};

@@ -1,4 +1,6 @@
 // Running a command on the lent file.
+#![tactic(auto)]
+
 ghost use Rattle.std.specs.Prelude.{◌≡◌, ◌+◌, ◌*◌, ◌≤◌, length};
 ghost use Rattle.rights.specs.Bytes.{set_bytes, bytes_of};
 ghost use Rattle.protection.specs.Limits.{rights};

@@ -1,1 +1,2 @@
 // Cases of twelve rights, proved: specs/ and proofs/ alone.
+#![tactic(auto)]

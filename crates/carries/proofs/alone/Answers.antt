@@ -1,10 +1,5 @@
-use Prim.Native.Nat.{◌≤◌, ◌-◌}
-use Rattle.protection.specs.Limits.{rights}
-use lib.Dec.{eqb}
-use Rattle.rights.specs.Rights.{number}
-use Rattle.cases.proofs.Filling.{Filling, filling_start, filling_more}
+use Rattle.cases.proofs.Filling.{filling_start, filling_more}
 use Rattle.carries.proofs.Closing.{alone_is, alone_end}
-use borrow.Author.Rules.{rules}
 use native.Mathlib.Omega.{arith}
 use Rattle.carries.proofs.alone.Goals as goal
 

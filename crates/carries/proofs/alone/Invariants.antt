@@ -2,10 +2,7 @@ use Prim.Native.Nat.{◌≤◌, ◌-◌}
 use Rattle.protection.specs.Limits.{rights}
 use lib.Dec.{eqb}
 use Rattle.rights.specs.Rights.{number}
-use Rattle.cases.proofs.Filling.{Filling, filling_start, filling_more}
-use Rattle.carries.proofs.Closing.{alone_is, alone_end}
-use borrow.Author.Rules.{rules}
-use native.Mathlib.Omega.{arith}
+use Rattle.cases.proofs.Filling.{Filling}
 use Rattle.carries.proofs.alone.Given as goal
 
 abbrev pub invariant-loop-i : goal.invariant-loop-i

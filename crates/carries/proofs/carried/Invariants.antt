@@ -1,9 +1,6 @@
 use Prim.Native.Nat.{◌≤◌, ◌-◌}
 use mathlib.Core.Path.{◌≡◌}
 use Rattle.carries.specs.Closed.{ends_of}
-use Rattle.carries.proofs.Closing.{ends_more, closed}
-use borrow.Author.Rules.{rules}
-use native.Mathlib.Omega.{arith}
 use Rattle.carries.proofs.carried.Given as goal
 
 abbrev pub invariant-loop : goal.invariant-loop

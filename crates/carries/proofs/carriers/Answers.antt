@@ -1,10 +1,5 @@
-use Rattle.protection.specs.Limits.{rights}
-use Prim.Native.Nat.{◌≤◌, ◌-◌}
-use lib.ListN.{get_or}
-use Rattle.rights.specs.Rights.{has, number}
-use Rattle.cases.proofs.Filling.{Filling, filling_start, filling_more}
+use Rattle.cases.proofs.Filling.{filling_start, filling_more}
 use Rattle.carries.proofs.Closing.{turned}
-use borrow.Author.Rules.{rules}
 use native.Mathlib.Omega.{arith}
 use Rattle.carries.proofs.carriers.Goals as goal
 

@@ -2,10 +2,7 @@ use Rattle.protection.specs.Limits.{rights}
 use Prim.Native.Nat.{◌≤◌, ◌-◌}
 use lib.ListN.{get_or}
 use Rattle.rights.specs.Rights.{has, number}
-use Rattle.cases.proofs.Filling.{Filling, filling_start, filling_more}
-use Rattle.carries.proofs.Closing.{turned}
-use borrow.Author.Rules.{rules}
-use native.Mathlib.Omega.{arith}
+use Rattle.cases.proofs.Filling.{Filling}
 use Rattle.carries.proofs.carriers.Given as goal
 
 abbrev pub invariant-loop-q : goal.invariant-loop-q

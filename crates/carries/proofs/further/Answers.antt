@@ -1,6 +1,4 @@
-use Prim.Native.Nat.{◌≤◌, ◌-◌}
-use mathlib.Core.Logic.{⊎_elim}
-use Rattle.carries.proofs.Closing.{Gathering, gathering_start, gathering_yes, gathering_no, gathering_end}
+use Rattle.carries.proofs.Closing.{gathering_start, gathering_yes, gathering_no, gathering_end}
 use borrow.Author.Rules.{rules}
 use native.Mathlib.Omega.{arith}
 use Rattle.carries.proofs.further.Goals as goal

@@ -1,8 +1,5 @@
 use Prim.Native.Nat.{◌≤◌, ◌-◌}
-use mathlib.Core.Logic.{⊎_elim}
-use Rattle.carries.proofs.Closing.{Gathering, gathering_start, gathering_yes, gathering_no, gathering_end}
-use borrow.Author.Rules.{rules}
-use native.Mathlib.Omega.{arith}
+use Rattle.carries.proofs.Closing.{Gathering}
 use Rattle.carries.proofs.further.Given as goal
 
 abbrev pub invariant-loop-j : goal.invariant-loop-j

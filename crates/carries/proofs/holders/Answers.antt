@@ -1,9 +1,5 @@
-use Rattle.protection.specs.Limits.{rights}
-use Prim.Native.Nat.{◌≤◌, ◌-◌}
 use mathlib.Core.Path.{◌∙◌}
-use mathlib.Core.Logic.{⊎_elim}
-use Rattle.carries.proofs.Closing.{Holding, holding_start, holding_yes, holding_no, holding_end}
-use borrow.Author.Rules.{rules}
+use Rattle.carries.proofs.Closing.{holding_start, holding_yes, holding_no, holding_end}
 use native.Mathlib.Omega.{arith}
 use Rattle.carries.proofs.holders.Goals as goal
 use Rattle.carries.proofs.holders.Goals.{else-holds, then-holds}

@@ -1,10 +1,6 @@
 use Rattle.protection.specs.Limits.{rights}
 use Prim.Native.Nat.{◌≤◌, ◌-◌}
-use mathlib.Core.Path.{◌∙◌}
-use mathlib.Core.Logic.{⊎_elim}
-use Rattle.carries.proofs.Closing.{Holding, holding_start, holding_yes, holding_no, holding_end}
-use borrow.Author.Rules.{rules}
-use native.Mathlib.Omega.{arith}
+use Rattle.carries.proofs.Closing.{Holding}
 use Rattle.carries.proofs.holders.Given as goal
 
 abbrev pub invariant-loop-i : goal.invariant-loop-i

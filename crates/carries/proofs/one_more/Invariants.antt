@@ -1,8 +1,5 @@
 use Prim.Native.Nat.{◌≤◌, ◌-◌}
-use Rattle.carries.proofs.Closing.{Extending, extending_start, extending_more, extending_end}
-use mathlib.Core.Path.{refl}
-use borrow.Author.Rules.{rules}
-use native.Mathlib.Omega.{arith}
+use Rattle.carries.proofs.Closing.{Extending}
 use Rattle.carries.proofs.one_more.Given as goal
 
 abbrev pub invariant-loop-i : goal.invariant-loop-i

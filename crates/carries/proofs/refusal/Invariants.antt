@@ -1,12 +1,7 @@
 use Prim.Native.Nat.{◌≤◌, ◌-◌}
 use mathlib.Core.Path.{◌≡◌}
-use native.Mathlib.Nat.{sub-zero}
 use Rattle.cases.specs.Cases.{all}
-use Rattle.cases.proofs.Loops.{all_stop, all_more, all_end}
 use Rattle.carries.specs.Refusals.{carry_fits}
-use Rattle.carries.proofs.Refusing.{refused_44, not_refused}
-use borrow.Author.Rules.{rules}
-use native.Mathlib.Omega.{arith}
 use Rattle.carries.proofs.refusal.Given as goal
 
 abbrev pub invariant-loop-right : goal.invariant-loop-right

@@ -1,6 +1,5 @@
 use Rattle.cases.proofs.Picks.{tests}
 use Rattle.layout.specs.Refusals.{header_refusal}
-use borrow.Author.Rules.{rules}
 use Rattle.layout.proofs.header_refusal.Goals as goal
 
 pub returns-then-file-lt2 : goal.returns-then-file-lt2

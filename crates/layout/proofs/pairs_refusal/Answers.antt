@@ -1,11 +1,5 @@
-use Prim.Native.Nat.{◌≤◌, ◌-◌}
-use mathlib.Core.Path.{◌≡◌}
 use native.Mathlib.Nat.{sub-zero}
-use Rattle.cases.specs.Cases.{all}
-use Rattle.layout.specs.Refusals.{in_place}
-use Rattle.layout.specs.File.{start_of}
 use Rattle.layout.proofs.Tests.{start_first, start_next, pair_stop, pair_more, misplaced, ends_early, ends_right}
-use borrow.Author.Rules.{rules}
 use native.Mathlib.Omega.{arith}
 use Rattle.layout.proofs.pairs_refusal.Goals as goal
 

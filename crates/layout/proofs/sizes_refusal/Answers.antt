@@ -2,7 +2,6 @@ use native.Mathlib.Omega.{arith}
 use Rattle.cases.proofs.Picks.{on_is, on_isnt}
 use Rattle.layout.specs.Refusals.{sizes_refusal}
 use Rattle.layout.proofs.Tests.{on_given, on_not_given}
-use borrow.Author.Rules.{rules}
 use Rattle.layout.proofs.sizes_refusal.Goals as goal
 
 pub returns-then-kinds-ne-NAMES : goal.returns-then-kinds-ne-NAMES

@@ -1,5 +1,4 @@
 use native.Mathlib.Omega.{arith}
-use borrow.Author.Rules.{rules}
 use Rattle.matrix.proofs.enter.Goals as goal
 
 pub offset_bounds-cells-at : goal.offset_bounds-cells-at

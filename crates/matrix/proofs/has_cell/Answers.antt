@@ -1,5 +1,4 @@
 use Rattle.cases.proofs.Bools.{and_second, and_first}
-use borrow.Author.Rules.{rules}
 use Rattle.matrix.proofs.has_cell.Goals as goal
 
 pub returns-then-is_subject : goal.returns-then-is_subject

@@ -1,11 +1,6 @@
-use Prim.Native.Nat.{◌≤◌, ◌-◌}
-use mathlib.Core.Path.{◌≡◌}
 use native.Mathlib.Nat.{sub-zero}
-use Rattle.cases.specs.Cases.{iterate}
 use Rattle.cases.proofs.Loops.{iterate_more}
-use Rattle.matrix.specs.Matrices.{emptied}
 use Rattle.matrix.proofs.Operations.{renewed_is}
-use borrow.Author.Rules.{rules}
 use native.Mathlib.Omega.{arith}
 use Rattle.matrix.proofs.renew.Goals as goal
 

@@ -1,12 +1,7 @@
 use Prim.Native.Nat.{◌≤◌, ◌-◌}
 use mathlib.Core.Path.{◌≡◌}
-use native.Mathlib.Nat.{sub-zero}
 use Rattle.cases.specs.Cases.{iterate}
-use Rattle.cases.proofs.Loops.{iterate_more}
 use Rattle.matrix.specs.Matrices.{emptied}
-use Rattle.matrix.proofs.Operations.{renewed_is}
-use borrow.Author.Rules.{rules}
-use native.Mathlib.Omega.{arith}
 use Rattle.matrix.proofs.renew.Given as goal
 
 abbrev pub invariant-loop-j : goal.invariant-loop-j

@@ -1,7 +1,6 @@
 use Rattle.rights.proofs.Bits.{one_shl}
 use Prim.Native.Nat.{◌<◌}
 use native.Mathlib.Omega.{arith}
-use borrow.Author.Rules.{rules}
 use Rattle.rights.proofs.none_from.Goals as goal
 
 pub returns : goal.returns

@@ -1,6 +1,5 @@
 use Rattle.rights.specs.Rights.{width}
 use Rattle.rights.proofs.Bits.{one_shl}
-use borrow.Author.Rules.{rules}
 use Rattle.rights.proofs.without_right.Goals as goal
 
 pub returns : goal.returns

@@ -1,5 +1,4 @@
 use native.Mathlib.Omega.{arith}
-use borrow.Author.Rules.{rules}
 use Rattle.matrix.proofs.Matrix.without_right.Goals as goal
 
 pub offset_bounds-self-at : goal.offset_bounds-self-at

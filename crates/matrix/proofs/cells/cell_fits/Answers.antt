@@ -1,7 +1,6 @@
 use Rattle.cases.proofs.Picks.{cases}
 use Rattle.matrix.specs.Refusals.{cell_fits}
 use Rattle.matrix.proofs.Tests.{cell_empty, cell_full}
-use borrow.Author.Rules.{rules}
 use native.Mathlib.Omega.{arith}
 use Rattle.matrix.proofs.cells.cell_fits.Goals as goal
 

@@ -1,11 +1,7 @@
 use Prim.Native.Nat.{◌≤◌, ◌-◌}
 use mathlib.Core.Path.{◌≡◌}
-use native.Mathlib.Nat.{sub-zero}
 use Rattle.cases.specs.Cases.{all}
-use Rattle.cases.proofs.Loops.{all_end, all_stop, all_more}
 use Rattle.matrix.specs.Refusals.{cell_fits}
-use borrow.Author.Rules.{rules}
-use native.Mathlib.Omega.{arith}
 use Rattle.matrix.proofs.cells.cells_fit.Given as goal
 
 abbrev pub invariant-loop-c : goal.invariant-loop-c

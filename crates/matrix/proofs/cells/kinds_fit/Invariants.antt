@@ -1,12 +1,7 @@
 use Prim.Native.Nat.{◌≤◌, ◌-◌}
 use mathlib.Core.Path.{◌≡◌}
-use native.Mathlib.Nat.{sub-zero}
 use Rattle.cases.specs.Cases.{all}
-use Rattle.cases.proofs.Loops.{all_end}
 use Rattle.matrix.specs.Refusals.{kind_fits}
-use Rattle.matrix.proofs.Tests.{kind_stop, kind_more}
-use borrow.Author.Rules.{rules}
-use native.Mathlib.Omega.{arith}
 use Rattle.matrix.proofs.cells.kinds_fit.Given as goal
 
 abbrev pub invariant-loop-x : goal.invariant-loop-x

@@ -1,6 +1,5 @@
 use Rattle.cases.proofs.Picks.{cases}
 use Rattle.matrix.specs.Refusals.{matrix_refusal}
-use borrow.Author.Rules.{rules}
 use Rattle.matrix.proofs.cells.matrix_refusal.Goals as goal
 
 pub returns-then-not-kinds_fit : goal.returns-then-not-kinds_fit

@@ -1,8 +1,5 @@
-use Prim.Native.Nat.{◌≤◌, ◌-◌}
-use lib.ListN.{length}
 use native.Mathlib.Omega.{arith}
-use borrow.Author.Rules.{rules}
-use Rattle.rights.proofs.SetBytes.{Reading, reading_start, reading_more, reading_end}
+use Rattle.rights.proofs.SetBytes.{reading_start, reading_more, reading_end}
 use Rattle.rights.proofs.bytes.read_sets.Goals as goal
 
 pub loop-c-init : goal.loop-c-init

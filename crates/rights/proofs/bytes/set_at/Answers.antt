@@ -1,5 +1,4 @@
 use Rattle.rights.proofs.SetBytes.{set_past, set_half}
-use borrow.Author.Rules.{rules}
 use Rattle.rights.proofs.bytes.set_at.Goals as goal
 
 pub returns-then-bytes-low : goal.returns-then-bytes-low

@@ -1,8 +1,5 @@
-use Prim.Native.Nat.{◌≤◌, ◌-◌}
-use lib.ListN.{length}
 use native.Mathlib.Omega.{arith}
-use borrow.Author.Rules.{rules}
-use Rattle.rights.proofs.SetBytes.{Writing, writing_start, writing_more, writing_end}
+use Rattle.rights.proofs.SetBytes.{writing_start, writing_more, writing_end}
 use Rattle.rights.proofs.bytes.write_sets.Goals as goal
 
 pub loop-c-init : goal.loop-c-init
