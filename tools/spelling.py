@@ -5,7 +5,7 @@ usage: python3 tools/spelling.py [--dry]      at the top of the repository
 
 The names are those that specs/ and the lemma files of proofs/ declare, record fields among them: `judgePart` becomes `judge_part`, and the dashes of a lemma's
 name underscores. A name keeps its spelling where the new one would fall together with a name of the library or with another one of the repository.
-Names of functions, exported names, strings and what Rattle generates stay. Pages and must-fail edits follow."""
+Names of functions, exported names, strings and what Rattle generates stay. Pages follow; must-fail edits are brought over apart."""
 
 import collections
 import os
