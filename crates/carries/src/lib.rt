@@ -5,25 +5,27 @@
 ghost use Rattle.std.specs.Prelude.{◌≡◌, List, ℕ, suc, ◌≤◌, ◌<◌, get_or};
 ghost use Rattle.rights.specs.Rights.{has, number};
 ghost use Rattle.protection.specs.Limits.{rights};
+ghost use Rattle.refusals.specs.Numbers.{code};
 ghost use Rattle.protection.specs.Carrying.{chained};
 ghost use Rattle.carries.specs.Bytes.{carried_in};
 ghost use Rattle.carries.specs.Refusals.{carries_refusal};
 ghost use Rattle.carries.specs.Closed.{ends_of, carried_of, carriers_of};
 
 use matrix::Matrix;
+use refusals::Refusal;
 use rights::Set;
 
-// The refusal of what rights carry, or 0.
-pub fn refusal(g: u8, carries: [Set; Matrix::RIGHTS as usize]) -> u8
+// Of g rights none carries a further one.
+pub fn check(g: u8, carries: [Set; Matrix::RIGHTS as usize]) -> Result<(), Refusal>
     requires { g ≤ rights }
-    ensures { result ≡ carries_refusal g carries }
+    ensures { code result ≡ carries_refusal g carries }
 {
     for right in 0..g {
         if !rights::none_from(carries[right as usize], g) {
-            return 44;
+            return Err(Refusal::CarriedRights);
         }
     }
-    0
+    Ok(())
 }
 
 // Each right alone: the ends of chains of no link.

@@ -1,15 +1,19 @@
 // The whole file: its matrix, what its rights carry and its commands, read or refused (document 01, refusals 1 to 9; document 02, C-19, 44).
 #![tactic(auto)]
 
-ghost use Rattle.std.specs.Prelude.{◌≡◌, ◌+◌, ◌*◌, ◌≤◌, ◌<◌, length, get_or};
+ghost use Rattle.std.specs.Prelude.{◌≡◌, ◌<◌, get_or, IfOk};
 ghost use Rattle.protection.specs.Limits.{commands};
+ghost use Rattle.refusals.specs.Numbers.{code};
 ghost use Rattle.layout.specs.File.{rights_of, carries_in, command_in};
-ghost use Rattle.policy.specs.Contents.{matrix_in, commands_read, no_policy, refused_read, policy_read};
-ghost use Rattle.commands.specs.Contents.{missing, command_read};
+ghost use Rattle.commands.specs.Contents.{missing, command_of};
+ghost use Rattle.commands.specs.Refusals.{command_refusal};
+ghost use Rattle.policy.specs.Refusals.{commands_refusal, refusal};
+ghost use Rattle.policy.specs.Contents.{matrix_in, command_table, policy_of};
 ghost use Rattle.policy.specs.Layout.{MatrixInside, CarriesInside, CommandInside, CommandsInside};
 
-use commands::{Command, CommandRead};
+use commands::Command;
 use matrix::Matrix;
+use refusals::Refusal;
 use rights::Set;
 
 // How many rights and commands there are, the matrix, and the commands; places behind the last command hold none. Of each right, what the file says that it
@@ -25,41 +29,13 @@ pub struct Policy {
     pub command: [Command; Policy::COMMANDS],
 }
 
-// refused is 0 where the file was read.
-#[derive(Clone, Copy)]
-pub struct PolicyRead {
-    pub refused: u8,
-    pub policy: Policy,
-}
-
-#[derive(Drop)]
-struct CommandsRead {
-    refused: u8,
-    all: [Command; Policy::COMMANDS],
-}
-
 impl Policy {
     pub const COMMANDS: usize = layout::COMMANDS;
 
-    // What goes with a refusal.
-    fn none() -> Self
-        ensures { result ≡ no_policy }
-    {
-        Policy {
-            rights: 0,
-            commands: 0,
-            matrix: Matrix::empty(),
-            carries: [rights::NONE; Matrix::RIGHTS as usize],
-            carried: [rights::NONE; Matrix::RIGHTS as usize],
-            carriers: [rights::NONE; Matrix::RIGHTS as usize],
-            command: [Command::none(); Policy::COMMANDS],
-        }
-    }
-
     // Command number i.
-    pub fn command_at(self, i: usize) -> Command
+    pub fn command_at(&self, i: usize) -> Command
         requires { i < commands }
-        ensures { result ≡ get_or self.command i missing }
+        ensures { result ≡ get_or self.now.command i missing }
     {
         self.command[i]
     }
@@ -94,9 +70,10 @@ fn carries_of(file: &[u8], g: u8) -> [Set; Matrix::RIGHTS as usize]
 }
 
 // Command number i, read from its own part of the file and no more.
-fn read_at(file: &[u8], g: u8, i: usize) -> CommandRead
+fn read_at(file: &[u8], g: u8, i: usize) -> Result<Command, Refusal>
     requires { CommandInside file.now i }
-    ensures { result ≡ command_read g (command_in file.now i) }
+    ensures refused { code result ≡ command_refusal g (command_in file.now i) }
+    ensures read { IfOk result (λ c. c ≡ command_of (command_in file.now i)) }
 {
     let p = 2 + 4 * (layout::FIXED + i);
     let start = layout::word_at(file, p);
@@ -105,81 +82,42 @@ fn read_at(file: &[u8], g: u8, i: usize) -> CommandRead
 }
 
 // The commands, or the first refusal among them.
-fn read_commands(file: &[u8], g: u8, count: usize) -> CommandsRead
+fn read_commands(file: &[u8], g: u8, count: usize) -> Result<[Command; Policy::COMMANDS], Refusal>
     requires { (g ≡ rights_of file.now) × CommandsInside file.now count }
-    ensures { result ≡ commands_read file.now count }
+    ensures refused { code result ≡ commands_refusal file.now count 0 }
+    ensures read { IfOk result (λ all. all ≡ command_table file.now count) }
 {
     let mut all = [Command::none(); Policy::COMMANDS];
     for i in 0..count {
-        let read = read_at(file, g, i);
-        let refused = read.refused;
-        if refused != 0 {
-            return CommandsRead {
-                refused,
-                all: [Command::none(); Policy::COMMANDS],
-            };
-        }
-        let c = read.command;
-        all[i] = c;
+        all[i] = read_at(file, g, i)?;
     }
-    CommandsRead { refused: 0, all }
-}
-
-fn refused_with(n: u8) -> PolicyRead
-    ensures { result ≡ refused_read n }
-{
-    PolicyRead {
-        refused: n,
-        policy: Policy::none(),
-    }
+    Ok(all)
 }
 
 // What the file says, or why it is refused.
-pub fn read_policy(file: &[u8]) -> PolicyRead
-    ensures { result ≡ policy_read file.now }
+pub fn read_policy(file: &[u8]) -> Result<Policy, Refusal>
+    ensures refused { code result ≡ refusal file.now }
+    ensures read { IfOk result (λ p. p ≡ policy_of file.now) }
 {
-    let header = layout::header_refusal(file);
-    if header != 0 {
-        return refused_with(header);
-    }
+    layout::check_header(file)?;
     let g = file[0];
     let n = file[1] as usize;
-    let table = layout::pairs_refusal(file, n);
-    if table != 0 {
-        return refused_with(table);
-    }
-    let sizes = layout::sizes_refusal(file, g);
-    if sizes != 0 {
-        return refused_with(sizes);
-    }
+    layout::check_pairs(file, n)?;
+    layout::check_sizes(file, g)?;
     let matrix = matrix_of(file);
-    let cells = matrix::cells::matrix_refusal(g, &matrix.kinds, &matrix.cells);
-    if cells != 0 {
-        return refused_with(cells);
-    }
+    matrix.check(g)?;
     let carries = carries_of(file, g);
-    let beyond = carries::refusal(g, carries);
-    if beyond != 0 {
-        return refused_with(beyond);
-    }
-    let commands = read_commands(file, g, n - layout::FIXED);
-    let refused = commands.refused;
-    if refused != 0 {
-        return refused_with(refused);
-    }
-    let command = commands.all;
+    carries::check(g, carries)?;
+    let command = read_commands(file, g, n - layout::FIXED)?;
     let carried = carries::carried(g, carries);
     let carriers = carries::carriers(carried);
-    PolicyRead {
-        refused: 0,
-        policy: Policy {
-            rights: g,
-            commands: (n - layout::FIXED) as u8,
-            matrix,
-            carries,
-            carried,
-            carriers,
-            command,
-        },
-    }
+    Ok(Policy {
+        rights: g,
+        commands: (n - layout::FIXED) as u8,
+        matrix,
+        carries,
+        carried,
+        carriers,
+        command,
+    })
 }
