@@ -10,8 +10,7 @@ use Rattle.matrix.specs.Matrices.{state_of}
 use Rattle.matrix.specs.declared.Matrix.{Matrix}
 use Rattle.masks.specs.declared.Tables.{Tables}
 use Rattle.commands.specs.Contents.{missing, operation_at}
-use Rattle.commands.specs.declared.StepRead.{StepRead}
-use Rattle.commands.specs.declared.StepRead.TheVariants.{Enter, Delete, CreateSubject, CreateObject, DestroySubject, DestroyObject, Refused}
+use Rattle.commands.specs.Steps.{StepRead, Enter, Delete, CreateSubject, CreateObject, DestroySubject, DestroyObject, Refused}
 use Rattle.policy.specs.Contents.{system_of}
 use Rattle.policy.specs.declared.Policy.{Policy}
 use Rattle.calls.specs.Calls.{found_call, Closable}

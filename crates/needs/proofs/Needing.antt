@@ -37,7 +37,8 @@ use Rattle.goals.specs.declared.Goal.{Goal}
 use Rattle.goals.proofs.Ending.{none-reserved}
 use Rattle.goals.proofs.Lists.{held_needs}
 use Rattle.trace.specs.Traces.{step_call, calls}
-use Rattle.visits.specs.Engine.{Course, progress_of, Asked}
+use Rattle.visits.specs.Engine.{progress_of, Asked}
+use Rattle.visits.specs.declared.Course.{Course}
 use Rattle.visits.proofs.Asked.{taken, room_left}
 use Rattle.questions.specs.Refusals.{size_refusal}
 use Rattle.questions.specs.Rounded.{BasisOf, Ended}
