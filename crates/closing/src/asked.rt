@@ -57,15 +57,13 @@ fn mark_asks(asks: &mut [u32; 4 * Matrix::RIGHTS as usize], c: Command, i: usize
 }
 
 // Digit i of element rights × k + q is set if command i asks for right q in cell k of the four.
-pub fn asked_by(p: Policy) -> [u32; 4 * Matrix::RIGHTS as usize]
-    requires { PolicyFits p }
-    ensures { AskedBy p result }
+pub fn asked_by(p: &Policy) -> [u32; 4 * Matrix::RIGHTS as usize]
+    requires { PolicyFits p.now }
+    ensures { AskedBy p.now result }
 {
     let mut asks = [0u32; 4 * Matrix::RIGHTS as usize];
-    let count = p.commands as usize;
-    for i in 0..count {
-        let c = p.command[i];
-        mark_asks(&mut asks, c, i);
+    for i in 0..p.commands as usize {
+        mark_asks(&mut asks, p.command[i], i);
     }
     asks
 }
