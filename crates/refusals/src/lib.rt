@@ -2,7 +2,7 @@
 #![tactic(auto)]
 
 ghost use Rattle.std.specs.Prelude.{◌≡◌};
-ghost use Rattle.refusals.specs.Numbers.{number_of};
+ghost use Rattle.refusals.specs.Numbers.{number_of, code};
 
 #[derive(Clone, Copy, Debug, PartialEq, Eq)]
 pub enum Refusal {
@@ -62,5 +62,15 @@ impl Refusal {
             Refusal::LongSheet => 43,
             Refusal::CarriedRights => 44,
         }
+    }
+}
+
+// The number of what is refused, or 0 where nothing is.
+pub fn code_of<T>(answer: &Result<T, Refusal>) -> u8
+    ensures { result ≡ code answer.now }
+{
+    match answer {
+        Ok(_) => 0,
+        Err(by) => by.number(),
     }
 }

@@ -27,8 +27,8 @@ use Rattle.trace.specs.Traces.{step_call, calls}
 use Rattle.trace.specs.Replays.{file_replay, replay_code, replay_step}
 use Rattle.safety.specs.Demand3.{steps_written, is_safe, is_unsafe, Demand3}
 use Rattle.safety.specs.Judgement.{judge_refusal, file_verdict, judgement_of, Judged}
-use Rattle.safety.specs.declared.Judgement.{Judgement}
-use Rattle.safety.specs.declared.Judgement.TheVariants.{Refused, Safe, Unsafe}
+use Rattle.safety.specs.Demand3.{Judgement}
+use Rattle.safety.specs.Demand3.{Refused, Safe, Unsafe}
 use Rattle.questions.proofs.Counts.{few_steps}
 use Rattle.safety.proofs.Refusals.{judges, refuses, kept}
 

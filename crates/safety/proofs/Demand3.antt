@@ -33,7 +33,7 @@ use Rattle.policy.proofs.Laws.{read_refusal, read_policy}
 use Rattle.policy.proofs.ReadPolicy.{policy_fits_read}
 use Rattle.trace.specs.Traces.{calls}
 use Rattle.trace.specs.Replays.{file_replay}
-use Rattle.trace.specs.declared.Replay.TheVariants.{Leak}
+use Rattle.trace.specs.Replays.{Leak}
 use Rattle.trace.proofs.Laws.{Replayed, replay_leak}
 use Rattle.goals.specs.Goals.{leak_goal}
 use Rattle.goals.proofs.Ending.{none-reserved}
@@ -50,8 +50,8 @@ use Rattle.questions.specs.Rounded.{BasisOf}
 use Rattle.questions.specs.declared.Basis.{Basis}
 use Rattle.safety.specs.Conclusion.{Concluded, PreparedOf}
 use Rattle.safety.specs.declared.Prepared.{Prepared}
-use Rattle.safety.specs.declared.Judgement.{Judgement}
-use Rattle.safety.specs.declared.Judgement.TheVariants.{Refused, Safe, Unsafe}
+use Rattle.safety.specs.Demand3.{Judgement}
+use Rattle.safety.specs.Demand3.{Refused, Safe, Unsafe}
 use Rattle.safety.proofs.Buffers.{bytes_length, front_bytes, calls_back, rest_behind}
 use Rattle.safety.proofs.Refusals.{Passed, passed, none_refused, judges, refuses, fills, question_asked}
 use Rattle.safety.proofs.Consequences.{some_step}

@@ -25,7 +25,7 @@ use Rattle.questions.specs.declared.Basis.{Basis}
 use Rattle.questions.proofs.Refusals.{Sized, sized, open_asked}
 use Rattle.protection.specs.Judge.{Verdict}
 use Rattle.safety.specs.Judgement.{caller_refusal, judge_refusal, file_verdict, judgement_of, judgement_by, file_judgement, filled, buffer_by, file_buffer}
-use Rattle.safety.specs.declared.Judgement.TheVariants.{Refused}
+use Rattle.safety.specs.Demand3.{Refused}
 
 -- ---- what the code tests, one after the other
 module _ (p : Policy) (r n : ℕ) where

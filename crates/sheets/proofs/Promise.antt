@@ -13,7 +13,7 @@ use lib.Seq.{length-take-le, take_at, drop_at, drop-drop}
 use Rattle.cases.specs.Cases.{pick}
 use Rattle.safety.specs.Demand3.{steps_written}
 use Rattle.safety.specs.Judgement.{judge_refusal, file_judgement, file_verdict, file_buffer, bytes_of}
-use Rattle.safety.specs.declared.Judgement.TheVariants.{Safe, Unsafe}
+use Rattle.safety.specs.Demand3.{Safe, Unsafe}
 use Rattle.safety.proofs.Buffers.{bytes_length}
 use Rattle.safety.proofs.Refusals.{judges, fills, kept}
 use Rattle.safety.proofs.Demand3.{judged, judge_demand3}

@@ -29,7 +29,7 @@ use Rattle.policy.proofs.ReadPolicy.{policy_is}
 use Rattle.execution.specs.Runs.{answer_of, outcome_of, ExecutedAs}
 use Rattle.update.specs.Files.{file_outcome, run_code, run_file, FileRun}
 use Rattle.update.proofs.Demand2.{file_run}
-use Rattle.execution.specs.declared.Answer.TheVariants.{Refused, Done, Leaked}
+use Rattle.execution.specs.Runs.{Refused, Done, Leaked}
 use Rattle.execution.specs.declared.Executed.{Executed}
 
 -- ---- the answers are told apart
