@@ -4,9 +4,6 @@ use Rattle.matrix.proofs.Tests.{cell_empty, cell_full}
 use native.Mathlib.Omega.{arith}
 use Rattle.matrix.proofs.Matrix.cell_fits.Goals as goal
 
-pub offset_bounds-self-c : goal.offset_bounds-self-c
-offset_bounds-self-c c = omega arith
-
 pub returns-then-cell-eq0 : goal.returns-then-cell-eq0
 returns-then-cell-eq0 c = search cell_empty
 

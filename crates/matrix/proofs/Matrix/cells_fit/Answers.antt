@@ -9,12 +9,6 @@ loop-c-init c = (omega arith, rw sub-zero)
 pub returns-then-not-cell_fits : goal.returns-then-not-cell_fits
 returns-then-not-cell_fits c = search all_stop
 
-pub overflow_step-c : goal.overflow_step-c
-overflow_step-c c = omega arith
-
-pub loop-c-smaller : goal.loop-c-smaller
-loop-c-smaller c = omega arith
-
 pub loop-c-preserved : goal.loop-c-preserved
 loop-c-preserved c = (omega arith, search all_more)
 

@@ -7,5 +7,3 @@ use Rattle.matrix.proofs.Matrix.cells_fit.Given as goal
 abbrev pub invariant-loop-c : goal.invariant-loop-c
 invariant-loop-c l = (l.c ≤ 1024) × (all (cell_fits l.g l.self.kinds l.self.cells) (1024 - l.c) l.c ≡ all (cell_fits l.g l.self.kinds l.self.cells) 1024 0)
 
-abbrev pub decreases-loop-c : goal.decreases-loop-c
-decreases-loop-c l = 1024 - l.c

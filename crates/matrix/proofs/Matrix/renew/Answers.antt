@@ -8,12 +8,6 @@ use Rattle.matrix.proofs.Matrix.renew.Goals as goal
 pub loop-j-init : goal.loop-j-init
 loop-j-init c = (omega arith, refl, rw sub-zero)
 
-pub offset_bounds-self-n : goal.offset_bounds-self-n
-offset_bounds-self-n c = omega arith
-
-pub offset_bounds-self-j : goal.offset_bounds-self-j
-offset_bounds-self-j c = omega arith
-
 pub loop-j-preserved : goal.loop-j-preserved
 loop-j-preserved c = (omega arith, cc, search iterate_more)
 
