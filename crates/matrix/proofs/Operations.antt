@@ -21,7 +21,7 @@ use Rattle.protection.specs.State.{Kind, is_object, is_subject}
 use Rattle.protection.specs.Paper.{subject_is_object}
 use Rattle.protection.specs.Execution.{same_cell, put, take_out, renew}
 use Rattle.matrix.specs.Bytes.{kind_of, inside, rights_in}
-use Rattle.matrix.specs.Matrices.{matrix_of, state_of, place, entered, deleted, emptied, renewed}
+use Rattle.matrix.specs.Matrices.{state_of, place, entered, deleted, emptied, renewed}
 use Rattle.matrix.specs.declared.Matrix.{Matrix}
 use Rattle.matrix.specs.Canonical.{Canonical}
 use Rattle.matrix.proofs.Inverse.{named_below, within_inside, in_bit}

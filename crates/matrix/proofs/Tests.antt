@@ -1,18 +1,17 @@
 -- The tests of the reader's loops over the kinds and the cells. Assumes nothing.
-use Prim.Native.Nat.{ℕ, ◌+◌, ◌-◌, ◌/◌, ◌%◌, ◌^◌, ◌≤◌, ◌<◌}
+use Prim.Native.Nat.{ℕ, ◌/◌, ◌%◌, ◌^◌}
 use mathlib.Core.Path.{◌≡◌, refl, sym, ◌∙◌}
-use mathlib.Core.Bool.{Bool, true, false, not}
+use mathlib.Core.Bool.{Bool, true, false}
 use mathlib.Core.List.{List}
-use borrow.Author.Tests.{lt-leb, le-leb, lt-ltb, ne_eqb, not-false}
+use borrow.Author.Tests.{lt-ltb, ne_eqb}
 use lib.Dec.{eqb}
 use lib.ListN.{get_or}
 use lib.Pow.{pow_pos}
-use Rattle.cases.specs.Cases.{pick, all}
-use Rattle.cases.proofs.Loops.{all_false, all_true}
+use Rattle.cases.specs.Cases.{pick}
 use Rattle.rights.specs.Rights.{within}
 use Rattle.protection.specs.Limits.{names}
 use Rattle.matrix.specs.Bytes.{inside}
-use Rattle.matrix.specs.Refusals.{kind_fits, cell_fits}
+use Rattle.matrix.specs.Refusals.{cell_fits}
 
 -- ---- a cell: an empty one fits wherever it is, another one where there is a cell
 pub cell_empty : (g : ℕ) (ks cs : List ℕ) (c : ℕ) → get_or cs c 0 ≡ 0 → eqb (get_or cs c 0) 0 ≡ cell_fits g ks cs c

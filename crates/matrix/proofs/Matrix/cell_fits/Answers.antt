@@ -1,7 +1,6 @@
 use Rattle.cases.proofs.Picks.{cases}
 use Rattle.matrix.specs.Refusals.{cell_fits}
 use Rattle.matrix.proofs.Tests.{cell_empty, cell_full}
-use native.Mathlib.Omega.{arith}
 use Rattle.matrix.proofs.Matrix.cell_fits.Goals as goal
 
 pub returns-then-cell-eq0 : goal.returns-then-cell-eq0
