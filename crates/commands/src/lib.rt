@@ -85,8 +85,8 @@ fn read_step(kind: u8, right: u8, first: u8, second: u8, k: u8, g: u8) -> Option
     ensures destroy_object { kind ≡ 6 → step_told result ≡ on_name k right first second (StepRead.DestroyObject first) }
     ensures any_other { (kind < 1) ⊎ (6 < kind) → step_told result ≡ StepRead.Refused }
 {
-    let on_cell = (right < g) & (first < k) & (second < k);
-    let on_name = (right == 0) & (first < k) & (second == 0);
+    let on_cell = right < g && first < k && second < k;
+    let on_name = right == 0 && first < k && second == 0;
     match kind {
         1 if on_cell => Some(Operation::Enter {
             right,
@@ -163,18 +163,15 @@ fn command_of(part: &[u8]) -> Command
     requires { (byte part.now 1 ≤ conditions) × (byte part.now 2 ≤ operations) × (length part.now ≡ 3 + 3 * byte part.now 1 + 4 * byte part.now 2) }
     ensures { result ≡ command_of part.now }
 {
-    let c = part[1];
-    let m = part[2];
-    let mid = 3 + 3 * (c as usize);
-    let end = part.len();
+    let (conditions, operations) = part[3..].split_at(3 * (part[1] as usize));
     let mut condition = [0u8; 3 * Command::CONDITIONS];
-    condition[..mid - 3].copy_from_slice(&part[3..mid]);
+    condition[..conditions.len()].copy_from_slice(conditions);
     let mut operation = [0u8; 4 * Command::OPERATIONS];
-    operation[..end - mid].copy_from_slice(&part[mid..end]);
+    operation[..operations.len()].copy_from_slice(operations);
     Command {
         parameters: part[0],
-        conditions: c,
-        operations: m,
+        conditions: part[1],
+        operations: part[2],
         condition,
         operation,
     }
