@@ -10,7 +10,7 @@ pub const SIZE: usize = 2;
 fn joined(low: u8, high: u8) -> Set
     ensures { result ≡ low + byte_values * high }
 {
-    (low as Set) + 256 * (high as Set)
+    Set::from_le_bytes([low, high])
 }
 
 // Set number c, of which a byte past the end reads as 0.
@@ -42,9 +42,8 @@ fn put_set(bytes: &mut [u8], c: usize, x: Set)
     requires { set_bytes * c + 1 < length bytes.old }
     ensures { bytes.new ≡ set (set bytes.old (set_bytes * c) (x % byte_values)) (set_bytes * c + 1) (x / byte_values) }
 {
-    let low = SIZE * c;
-    bytes[low] = (x % 256) as u8;
-    bytes[low + 1] = (x / 256) as u8;
+    let at = SIZE * c;
+    [bytes[at], bytes[at + 1]] = x.to_le_bytes();
 }
 
 // All sets, written into the bytes.
