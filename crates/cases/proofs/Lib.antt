@@ -3,3 +3,4 @@ pub mod Loops
 pub mod Bools
 pub mod Lists
 pub mod Filling
+pub mod Slices

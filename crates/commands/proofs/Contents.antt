@@ -1,19 +1,15 @@
 -- What the reader of a command hands out. Assumes nothing.
 use Prim.Native.Nat.{ℕ, zero, suc, ◌+◌, ◌*◌, ◌-◌, ◌≤◌, ◌<◌}
 use mathlib.Core.Path.{◌≡◌, refl, sym, ap, ap₂, ◌∙◌}
-use mathlib.Core.Bool.{false}
 use mathlib.Core.List.{List, [], ◌∷◌, ◌++◌}
 use native.Mathlib.Nat.{sub-zero, not-suc-le-zero}
 use native.Mathlib.Omega.{arith}
-use borrow.Author.Tests.{ne_eqb}
-use lib.Dec.{eqb}
 use lib.ListN.{length, take, drop, replicate, length-drop}
 use lib.Seq.{take_all, take-length, length-take-le}
 use Rattle.layout.specs.File.{byte}
 use Rattle.commands.specs.Refusals.{command_refusal}
-use Rattle.commands.specs.Contents.{padded, no_command, command_of, command_read}
+use Rattle.commands.specs.Contents.{padded, command_of}
 use Rattle.commands.specs.declared.Command.{Command}
-use Rattle.commands.specs.declared.CommandRead.{CommandRead}
 use Rattle.commands.proofs.Accepted.{command_accepted}
 
 drop_replicate : (n m : ℕ) → n ≤ m → drop {A = ℕ} n (replicate m 0) ≡ replicate (m - n) 0
@@ -42,14 +38,6 @@ command_is p x y hc hm e dx dy =
     copied 24 (length p - (3 + 3 * byte p 1)) (take (length p - (3 + 3 * byte p 1)) (drop (3 + 3 * byte p 1) p)) y (omega arith) k dy ∙ ap (λ (z : ℕ). padded 24 (take z (drop (3 + 3 * byte p 1) p))) v in
     rw (ex, ey)
 
-module _ (g : ℕ) (p : List ℕ) (r : ℕ) (d : r ≡ command_refusal g p) where
-  pub command_sizes : r ≡ 0 → (byte p 1 ≤ 4) × (byte p 2 ≤ 6) × (length p ≡ 3 + 3 * byte p 1 + 4 * byte p 2)
-  command_sizes e = let h = command_accepted g p (sym d ∙ e) in (h.few_conditions, h.few_operations, h.size)
-
-  pub command_refused : (x : Command) → (r ≡ 0 → ⊥) → x ≡ no_command → ◌≡◌ {A = CommandRead} (record { refused = r; command = x }) (command_read g p)
-  unfolding command_read
-  command_refused x ne e = let z : eqb (command_refusal g p) 0 ≡ false = ne_eqb (command_refusal g p) 0 (λ q. ne (d ∙ q)) in rw (d, e, z)
-
-  pub command-read : (x : Command) → r ≡ 0 → x ≡ command_of p → ◌≡◌ {A = CommandRead} (record { refused = 0; command = x }) (command_read g p)
-  unfolding command_read
-  command-read x q e = let z : command_refusal g p ≡ 0 = sym d ∙ q in rw (e, z)
+-- where no test refused the section
+pub command_sizes : (g : ℕ) (p : List ℕ) → 0 ≡ command_refusal g p → (byte p 1 ≤ 4) × (byte p 2 ≤ 6) × (length p ≡ 3 + 3 * byte p 1 + 4 * byte p 2)
+command_sizes g p e = let h = command_accepted g p (sym e) in (h.few_conditions, h.few_operations, h.size)

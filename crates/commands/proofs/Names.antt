@@ -11,10 +11,10 @@ use Rattle.cases.specs.Cases.{tabulate}
 use Rattle.cases.proofs.Lists.{any_found, any_next, any_tabulate}
 use Rattle.cases.proofs.Bools.{or_left, or_right}
 use Rattle.protection.specs.Command.{Condition, Operation, in_conditions, in_operation, in_operations, named}
+use Rattle.commands.specs.Steps.{StepRead}
 use Rattle.commands.specs.Contents.{condition_of, operation_at, operations_of, operations_from, model_of, step_of, meaning}
 use Rattle.commands.specs.declared.Command.{Command}
 use Rattle.commands.specs.declared.Operation.{Operation as CodeOperation}
-use Rattle.commands.specs.declared.StepRead.{StepRead}
 use Rattle.commands.proofs.Reading.{operations-of, steps_more}
 
 -- ---- steps one behind the other

@@ -42,8 +42,8 @@ bounds-part-at-in-loop-j-3 c = omega arith
 pub bounds-part-0 : goal.bounds-part-0
 bounds-part-0 c = omega arith
 
-pub returns-then-not-is_read : goal.returns-then-not-is_read
-returns-then-not-is_read c = search steps_stop
+pub returns-then-is_none : goal.returns-then-is_none
+returns-then-is_none c = search steps_stop
 
 pub overflow_step-j : goal.overflow_step-j
 overflow_step-j c = omega arith

@@ -3,4 +3,4 @@ use borrow.Author.Rules.{rules}
 use Rattle.commands.proofs.Command.step_at.Goals as goal
 
 pub returns : goal.returns
-returns c = read_is _ _ _ _ _ _ _ c.read_step.ensures
+returns c = search read_is
