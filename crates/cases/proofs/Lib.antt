@@ -4,3 +4,4 @@ pub mod Bools
 pub mod Lists
 pub mod Filling
 pub mod Slices
+pub mod FromFn

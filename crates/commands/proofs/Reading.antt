@@ -1,7 +1,7 @@
 -- What the reader of a step answers: it is `step_read`; what it does not refuse is an operation within the limits. Assumes nothing.
 use Prim.Native.Nat.{ℕ, zero, suc, ◌+◌, ◌*◌, ◌-◌, ◌≤◌, ◌<◌}
 use mathlib.Core.Path.{◌≡◌, refl, sym, ap, ap₂, ◌∙◌, subst}
-use mathlib.Core.Bool.{Bool, true, false, not, ◌&&◌, ◌||◌, or-false}
+use mathlib.Core.Bool.{Bool, true, false, ◌&&◌, ◌||◌, or-false}
 use mathlib.Core.List.{List, [], ◌∷◌, ◌++◌}
 use Rattle.std.specs.Prelude.{Option, Some, None, is_some}
 use mathlib.Core.Logic.{◌⊎◌, inl, inr, ⊎_elim}
@@ -11,16 +11,15 @@ use native.Mathlib.Numerals.{add-one}
 use borrow.Author.Tests.{eq-eqb, ne_eqb, lt-ltb}
 use lib.Dec.{T, eqb, ltb, ltb→lt}
 use lib.ListN.{length, length-append}
-use Rattle.cases.specs.Cases.{pick, all}
+use Rattle.cases.specs.Cases.{pick}
 use Rattle.cases.proofs.Bools.{both, and_left, and_right, and_intro, is_true, or_left, holds as test-holds}
-use Rattle.cases.proofs.Loops.{all_false, all_true}
 use Rattle.protection.specs.Limits.{rights}
 use Rattle.protection.specs.Command.{Operation as ModelOperation, enter, delete, create_subject, create_object, destroy_subject, destroy_object, in_operation, in_operations}
 use Rattle.protection.specs.Judge.{first_operation, operation_in}
 use Rattle.protection.proofs.Calls.{OperationBelow}
 use Rattle.commands.specs.Steps.{StepRead, Enter, Delete, CreateSubject, CreateObject, DestroySubject, DestroyObject, Refused, on_cell, on_name, step_read, is_read}
 use Rattle.layout.specs.File.{byte}
-use Rattle.commands.specs.Refusals.{operation_fits, operation_fits_at}
+use Rattle.commands.specs.Refusals.{operation_fits}
 use Rattle.commands.specs.Contents.{step_in, operation_at, operations_of, operations_from, model_of, step_of, step_told, meaning}
 use Rattle.commands.specs.Fits.{Reads, Fits}
 use Rattle.commands.specs.declared.Command.{Command}
@@ -91,7 +90,7 @@ module _ (k g kind q x y : ℕ) (r : StepRead) where
             ne_eqb kind 6 (f 6 (omega arith) (omega arith)),
           )
 
--- ---- the loop that asks whether all steps are read
+-- ---- whether a step is read
 -- an answer with an operation is a step that is read
 some_told : (o : Option Operation) → is_some o ≡ is_read (step_told o)
 some_told None = refl
@@ -102,21 +101,10 @@ some_told (Some (op.CreateObject x)) = refl
 some_told (Some (op.DestroySubject x)) = refl
 some_told (Some (op.DestroyObject x)) = refl
 
-module _ (g : ℕ) (p : List ℕ) (from n j : ℕ) (whole : Bool) (s : Option Operation) (r : Bool) where
-  abbrev at : ℕ
-  at = from + 4 * j
-
-  told : Answered (byte p 0) g (byte p at) (byte p (at + 1)) (byte p (at + 2)) (byte p (at + 3)) (step_told s) → is_some s ≡ not r → operation_fits_at g p from j ≡ not r
-  unfolding operation_fits
-  told h d = sym (some_told s ∙ ap is_read (read_is (byte p 0) g (byte p at) (byte p (at + 1)) (byte p (at + 2)) (byte p (at + 3)) (step_told s) h)) ∙ d
-
-  pub steps_stop : Answered (byte p 0) g (byte p at) (byte p (at + 1)) (byte p (at + 2)) (byte p (at + 3)) (step_told s) → is_some s ≡ not r → r ≡ true → j < n
-      → all (operation_fits_at g p from) (n - j) j ≡ whole → false ≡ whole
-  steps_stop h d t l e = all_false (operation_fits_at g p from) n whole j (told h d ∙ ap not t) l e
-
-  pub steps_next : Answered (byte p 0) g (byte p at) (byte p (at + 1)) (byte p (at + 2)) (byte p (at + 3)) (step_told s) → is_some s ≡ not r → r ≡ false → j < n
-      → all (operation_fits_at g p from) (n - j) j ≡ whole → all (operation_fits_at g p from) (n - (j + 1)) (j + 1) ≡ whole
-  steps_next h d t l e = all_true (operation_fits_at g p from) n whole j (told h d ∙ ap not t) l e
+pub some_read : (g : ℕ) (p : List ℕ) (i : ℕ) (s : Option Operation) (r : Bool) → Answered (byte p 0) g (byte p i) (byte p (i + 1)) (byte p (i + 2)) (byte p (i + 3)) (step_told s)
+    → r ≡ is_some s → r ≡ operation_fits g p i
+unfolding operation_fits
+some_read g p i s r h d = d ∙ some_told s ∙ ap is_read (read_is (byte p 0) g (byte p i) (byte p (i + 1)) (byte p (i + 2)) (byte p (i + 3)) (step_told s) h)
 
 -- ---- an operation, and what the reader says where it says it
 pub operations-of : (c : Operation) → operations_of (step_of c) ≡ model_of c ∷ []

@@ -1,5 +1,4 @@
 use Rattle.commands.proofs.Contents.{command_sizes}
-use borrow.Author.Rules.{rules}
 use Rattle.commands.proofs.read_command.Goals as goal
 
 pub command_of-requires : goal.command_of-requires

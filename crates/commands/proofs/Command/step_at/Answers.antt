@@ -1,5 +1,4 @@
 use Rattle.commands.proofs.Reading.{read_is}
-use borrow.Author.Rules.{rules}
 use Rattle.commands.proofs.Command.step_at.Goals as goal
 
 pub returns : goal.returns
