@@ -1,6 +1,6 @@
 -- What the number of an answer says of it.
 use mathlib.Core.Path.{sym, ◌∙◌}
-use Rattle.std.specs.Prelude.{ℕ, ◌≡◌, ◌<◌, ◌≢◌, Result, Ok, Err, IsOk, IsErrAnd}
+use Rattle.std.specs.Prelude.{ℕ, ◌≡◌, ◌<◌, Result, Ok, Err, IsErrAnd}
 use Rattle.refusals.specs.declared.Refusal.{Refusal}
 use Rattle.refusals.specs.declared.Refusal.TheVariants.{FileLength, RightCount, PairCount, SectionPlace, SectionLength, KindByte, CellRights, CommandCounts, CommandParts, CarriedRights, NoCommand, Actuals, Conditions, Operations, TraceLength, NoRight, SeveralOperations, TooManyNames, ShortBuffer, NeededCells, TrustedNames, LongSheet}
 use Rattle.refusals.specs.Numbers.{number_of, code}
