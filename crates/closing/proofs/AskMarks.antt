@@ -148,16 +148,14 @@ module _ (c : Command) (i : ℕ) (before : List ℕ) (n x y j : ℕ) (now : List
           go (no la) g = same (e ∙ sym (mark_neither now i q a b (omega arith)))
 
 -- ---- the commands
-pub record Asking (p : Policy) (count i : ℕ) (asks : List ℕ) : Type 0 where
+pub record Asking (p : Policy) (i : ℕ) (asks : List ℕ) : Type 0 where
   pub fits : PolicyFits p
-  pub number : count ≡ p.commands
-  pub within : i ≤ count
+  pub within : i ≤ p.commands
   pub asked : AskedBy p asks
 
-pub asking_start : (p : Policy) (count : ℕ) → PolicyFits p → count ≡ p.commands → Asking p count 0 (replicate (4 * rights) 0)
-asking_start p count F e = record {
+pub asking_start : (p : Policy) → PolicyFits p → Asking p 0 (replicate (4 * rights) 0)
+asking_start p F = record {
   fits = F;
-  number = e;
   within = omega arith;
   asked = record { length_is = length-replicate {A = ℕ} (4 * rights) 0; says = λ e i l t. absurd (clash (has (get_or (replicate {A = ℕ} (4 * rights) 0) e 0) i) (zeros e i l) t) };
 }
@@ -168,25 +166,24 @@ asking_start p count F e = record {
     clash : (b : Bool) → b ≡ false → b ≡ true → ⊥
     clash b x y = let z : ◌≡◌ {A = Bool} true false = cc in let w : ◌≡◌ {A = ℕ} 0 1 = cc in omega arith
 
-module _ (p : Policy) (count i : ℕ) (asks : List ℕ) (K : Asking p count i asks) where
+module _ (p : Policy) (i : ℕ) (asks : List ℕ) (K : Asking p i asks) where
   pub asking_end : AskedBy p asks
   asking_end = K.asked
 
   pub asking_length : length asks ≡ 4 * rights
   asking_length = K.asked.length_is
 
-  module _ (l : i < count) where
+  module _ (l : i < p.commands) where
     pub asking_number : i < 32
-    asking_number = omega (arith, K.number, K.fits.few_commands)
+    asking_number = omega (arith, K.fits.few_commands)
 
     module _ (c : Command) (e : c ≡ get_or p.command i missing) where
       pub asking_fits : Fits rights c
-      asking_fits = subst (Fits rights) (sym e) (fits_wider p.rights rights (get_or p.command i missing) K.fits.few_rights (K.fits.commands_fit i (rw K.number at l)))
+      asking_fits = subst (Fits rights) (sym e) (fits_wider p.rights rights (get_or p.command i missing) K.fits.few_rights (K.fits.commands_fit i l))
 
-      pub asking_more : (new : List ℕ) → AsksMarked c i asks new → Asking p count (i + 1) new
+      pub asking_more : (new : List ℕ) → AsksMarked c i asks new → Asking p (i + 1) new
       asking_more new M = record {
         fits = K.fits;
-        number = K.number;
         within = omega arith;
         asked = record {
           length_is = M.length_is;

@@ -5,8 +5,6 @@ use mathlib.Core.Logic.{⊎_elim}
 use Rattle.closing.specs.Asks.{LackingIn}
 use borrow.Author.Rules.{rules}
 use native.Mathlib.Omega.{arith}
-use Rattle.closing.proofs.asked.lacking_in.Reads as reads
-use Rattle.closing.proofs.asked.lacking_in.Lts as lts
 use Rattle.closing.proofs.asked.lacking_in.Goals as goal
 use Rattle.closing.proofs.asked.lacking_in.Goals.{else-set-carriers-eq0, then-set-carriers-eq0}
 

@@ -5,8 +5,6 @@ use mathlib.Core.Logic.{⊎_elim}
 use Rattle.closing.specs.Asks.{LackingIn}
 use borrow.Author.Rules.{rules}
 use native.Mathlib.Omega.{arith}
-use Rattle.closing.proofs.asked.lacking_in.Reads as reads
-use Rattle.closing.proofs.asked.lacking_in.Lts as lts
 use Rattle.closing.proofs.asked.lacking_in.Given as goal
 
 abbrev pub invariant-loop-q : goal.invariant-loop-q

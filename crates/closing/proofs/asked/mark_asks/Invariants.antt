@@ -3,10 +3,6 @@ use Rattle.closing.proofs.AskMarks.{Marking, marking_start, marking_byte, markin
 use Prim.Native.Nat.{◌-◌}
 use borrow.Author.Rules.{rules}
 use native.Mathlib.Omega.{arith}
-use Rattle.closing.proofs.asked.mark_asks.Reads as reads
-use Rattle.closing.proofs.asked.mark_asks.Lts as lts
-use Rattle.closing.proofs.asked.mark.Reads as mark-reads
-use Rattle.closing.proofs.asked.side.Reads as side-reads
 use Rattle.closing.proofs.asked.mark_asks.Given as goal
 
 abbrev pub invariant-loop-j : goal.invariant-loop-j
