@@ -51,11 +51,14 @@ module _ (l : List ℕ) (i q a b : ℕ) where
   pub mark_both : a < 2 → b < 2 → i < commands → set l (rights * (2 * a + b) + q) (bit_or (get_or l (rights * (2 * a + b) + q) 0) ((1 * 2 ^ i) % 2 ^ 32)) ≡ on (ltb a 2) (ltb b 2)
   mark_both la lb li = mark_is l (rights * (2 * a + b) + q) i li ∙ ap₂ on (sym (lt-ltb a 2 la)) (sym (lt-ltb b 2 lb))
 
-  pub mark_first : a < 2 → 2 ≤ b → l ≡ on (ltb a 2) (ltb b 2)
+  mark_first : a < 2 → 2 ≤ b → l ≡ on (ltb a 2) (ltb b 2)
   mark_first la lb = ap₂ on (sym (lt-ltb a 2 la)) (sym (le-ltb b 2 lb))
 
-  pub mark_neither : 2 ≤ a → l ≡ on (ltb a 2) (ltb b 2)
+  mark_neither : 2 ≤ a → l ≡ on (ltb a 2) (ltb b 2)
   mark_neither la = ap (λ (u : Bool). on u (ltb b 2)) (sym (le-ltb a 2 la))
+
+  pub mark_none : (a < 2 × 2 ≤ b) ⊎ (2 ≤ a) → l ≡ on (ltb a 2) (ltb b 2)
+  mark_none = ⊎_elim (λ (h : a < 2 × 2 ≤ b). mark_first h.0 h.1) (λ (h : 2 ≤ a). mark_neither h)
 
 -- ---- the conditions of one command
 pub record Marking (c : Command) (i : ℕ) (before : List ℕ) (n x y j : ℕ) (now : List ℕ) : Type 0 where

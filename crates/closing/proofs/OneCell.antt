@@ -1,18 +1,16 @@
 -- The closing search at one cell. Assumes nothing.
-use Prim.Native.Nat.{ℕ, ◌-◌, ◌*◌, ◌/◌, ◌%◌, ◌<◌}
+use Prim.Native.Nat.{ℕ, ◌*◌, ◌/◌, ◌%◌, ◌<◌}
 use mathlib.Core.Path.{◌≡◌, refl, sym, ap, ap₂, ◌∙◌}
-use mathlib.Core.Bool.{Bool, true, false, not, ◌&&◌}
+use mathlib.Core.Bool.{Bool, true, false, not}
 use mathlib.Core.List.{List, [], ◌∷◌}
 use mathlib.Core.Option.{Option, none, some}
 use Rattle.std.specs.Prelude.{Option as Answered, Some, None, is_some}
 use native.Mathlib.Omega.{arith}
-use borrow.Author.Tests.{not-true}
-use Rattle.cases.specs.Cases.{pick}
 use Rattle.protection.specs.Limits.{names}
 use Rattle.protection.specs.State.{State}
-use Rattle.protection.specs.Command.{Call, actuals}
+use Rattle.protection.specs.Command.{Call}
 use Rattle.protection.specs.Execution.{take_out}
-use Rattle.protection.specs.Judge.{four_of, both, is_empty}
+use Rattle.protection.specs.Judge.{both, is_empty}
 use Rattle.matrix.specs.Matrices.{state_of}
 use Rattle.matrix.specs.declared.Matrix.{Matrix}
 use Rattle.masks.specs.declared.Tables.{Tables}
@@ -21,7 +19,7 @@ use Rattle.queries.specs.declared.Touch.{Touch}
 use Rattle.policy.specs.Contents.{system_of}
 use Rattle.policy.specs.declared.Policy.{Policy}
 use Rattle.closing.specs.Asks.{LackingAt, left_in}
-use Rattle.calls.specs.Calls.{call_of, found_call, Covers, first_touching, Lookable}
+use Rattle.calls.specs.Calls.{call_of, Covers, first_touching, Lookable}
 use Rattle.closing.specs.Closing.{pair_of, both_at, SoughtIn}
 use Rattle.calls.specs.declared.Call.{Call as CodeCall}
 use Rattle.closing.specs.declared.Pair.{Pair}

@@ -32,11 +32,8 @@ fn mark(asks: &mut [u32; 4 * Matrix::RIGHTS as usize], i: usize, q: u8, a: usize
     requires { (length asks.old ≡ 4 * rights) × (i < commands) × (q < rights) }
     ensures { asks.new ≡ pick (ltb a 2 && ltb b 2) (raised asks.old (rights * (2 * a + b) + q) i) asks.old }
 {
-    if a < 2 {
-        if b < 2 {
-            let at = Matrix::RIGHTS as usize * (2 * a + b) + q as usize;
-            asks[at] = asks[at] | (1u32 << i);
-        }
+    if a < 2 && b < 2 {
+        asks[Matrix::RIGHTS as usize * (2 * a + b) + q as usize] |= 1u32 << i;
     }
 }
 

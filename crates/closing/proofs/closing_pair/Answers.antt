@@ -1,5 +1,4 @@
 use Rattle.closing.proofs.StartCells.{none_taken, none_returned, sought_in, sought_found}
-use borrow.Author.Rules.{rules}
 use Rattle.closing.proofs.closing_pair.Goals as goal
 
 pub returns-then-taking-eq0 : goal.returns-then-taking-eq0

@@ -1,6 +1,4 @@
-use Rattle.closing.proofs.PassedBy.{concerning_fits, Concerning, concerning_start, concerning_end, concerning_yes, concerning_no}
-use mathlib.Core.Logic.{⊎_elim}
-use Prim.Native.Nat.{◌-◌}
+use Rattle.closing.proofs.PassedBy.{concerning_fits, concerning_start, concerning_end, concerning_yes, concerning_no}
 use borrow.Author.Rules.{rules}
 use native.Mathlib.Omega.{arith}
 use Rattle.closing.proofs.concerned.Goals as goal

@@ -1,8 +1,5 @@
-use Rattle.closing.proofs.PassedBy.{concerning_fits, Concerning, concerning_start, concerning_end, concerning_yes, concerning_no}
-use mathlib.Core.Logic.{⊎_elim}
+use Rattle.closing.proofs.PassedBy.{Concerning}
 use Prim.Native.Nat.{◌-◌}
-use borrow.Author.Rules.{rules}
-use native.Mathlib.Omega.{arith}
 use Rattle.closing.proofs.concerned.Given as goal
 
 abbrev pub invariant-loop-i : goal.invariant-loop-i

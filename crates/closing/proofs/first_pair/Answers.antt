@@ -1,7 +1,4 @@
-use Rattle.closing.proofs.StartCells.{Cells, cells_start, cells_right, cells_found, cells_next, cells_lacks, cells_end}
-use mathlib.Core.Logic.{⊎_elim}
-use Prim.Native.Nat.{◌-◌}
-use borrow.Author.Rules.{rules}
+use Rattle.closing.proofs.StartCells.{cells_start, cells_right, cells_found, cells_next, cells_lacks, cells_end}
 use native.Mathlib.Omega.{arith}
 use Rattle.closing.proofs.first_pair.Goals as goal
 use Rattle.closing.proofs.first_pair.Goals.{else-holds, then-holds+else-is_some}

@@ -1,8 +1,5 @@
-use Rattle.closing.proofs.StartCells.{Cells, cells_start, cells_right, cells_found, cells_next, cells_lacks, cells_end}
-use mathlib.Core.Logic.{⊎_elim}
+use Rattle.closing.proofs.StartCells.{Cells}
 use Prim.Native.Nat.{◌-◌}
-use borrow.Author.Rules.{rules}
-use native.Mathlib.Omega.{arith}
 use Rattle.closing.proofs.first_pair.Given as goal
 
 abbrev pub invariant-loop-cell : goal.invariant-loop-cell

@@ -1,5 +1,4 @@
 use Rattle.closing.proofs.OneCell.{cell_asked, cell_unreturned, covers_taken, cell_untaken, cell_not_back, covers_returned, cell_both}
-use borrow.Author.Rules.{rules}
 use Rattle.closing.proofs.pair_at.Goals as goal
 
 pub returns-then-returners-eq0 : goal.returns-then-returners-eq0

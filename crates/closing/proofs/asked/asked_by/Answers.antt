@@ -1,6 +1,4 @@
-use Rattle.closing.proofs.AskMarks.{Asking, asking_start, asking_length, asking_fits, asking_number, asking_more, asking_end}
-use Prim.Native.Nat.{◌-◌}
-use borrow.Author.Rules.{rules}
+use Rattle.closing.proofs.AskMarks.{asking_start, asking_length, asking_fits, asking_number, asking_more, asking_end}
 use native.Mathlib.Omega.{arith}
 use Rattle.closing.proofs.asked.asked_by.Goals as goal
 

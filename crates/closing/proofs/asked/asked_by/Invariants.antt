@@ -1,7 +1,5 @@
-use Rattle.closing.proofs.AskMarks.{Asking, asking_start, asking_length, asking_fits, asking_number, asking_more, asking_end}
+use Rattle.closing.proofs.AskMarks.{Asking}
 use Prim.Native.Nat.{◌-◌}
-use borrow.Author.Rules.{rules}
-use native.Mathlib.Omega.{arith}
 use Rattle.closing.proofs.asked.asked_by.Given as goal
 
 abbrev pub invariant-loop-i : goal.invariant-loop-i

@@ -1,9 +1,4 @@
-use Rattle.protection.specs.Limits.{rights}
 use Rattle.closing.proofs.Lacking.{lacking_start, lacking_more, lacking_same}
-use Prim.Native.Nat.{◌-◌, ◌≤◌}
-use mathlib.Core.Logic.{⊎_elim}
-use Rattle.closing.specs.Asks.{LackingIn}
-use borrow.Author.Rules.{rules}
 use native.Mathlib.Omega.{arith}
 use Rattle.closing.proofs.asked.lacking_in.Goals as goal
 use Rattle.closing.proofs.asked.lacking_in.Goals.{else-set-carriers-eq0, then-set-carriers-eq0}

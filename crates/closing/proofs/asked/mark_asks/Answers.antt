@@ -1,6 +1,5 @@
 use mathlib.Core.Path.{refl}
-use Rattle.closing.proofs.AskMarks.{Marking, marking_start, marking_byte, marking_byte_1, marking_byte_2, marking_length, marking_right, marking_more, marking_end}
-use Prim.Native.Nat.{◌-◌}
+use Rattle.closing.proofs.AskMarks.{marking_start, marking_byte, marking_byte_1, marking_byte_2, marking_length, marking_right, marking_more, marking_end}
 use borrow.Author.Rules.{rules}
 use native.Mathlib.Omega.{arith}
 use Rattle.closing.proofs.asked.mark_asks.Goals as goal
