@@ -1,25 +1,15 @@
 use Rattle.closing.proofs.StartCells.{cells_start, cells_right, cells_found, cells_next, cells_lacks, cells_end}
-use native.Mathlib.Omega.{arith}
 use Rattle.closing.proofs.first_pair.Goals as goal
 use Rattle.closing.proofs.first_pair.Goals.{else-holds, then-holds+else-is_some}
 
 pub loop-cell-init : goal.loop-cell-init
 loop-cell-init c = search cells_start
 
-pub offset_bounds-p-cell : goal.offset_bounds-p-cell
-offset_bounds-p-cell c = omega arith
-
 pub holds-requires : goal.holds-requires
 holds-requires c = search cells_right
 
 pub returns-then-is_some : goal.returns-then-is_some
 returns-then-is_some c = search cells_found
-
-pub overflow_step-cell : goal.overflow_step-cell
-overflow_step-cell c = omega arith
-
-pub loop-cell-smaller : goal.loop-cell-smaller
-loop-cell-smaller c = omega arith
 
 pub loop-cell-preserved : goal.loop-cell-preserved
 loop-cell-preserved c = elim c.if-holds.branch [ then-holds+else-is_some w ↦ search cells_next | else-holds w ↦ search cells_lacks ]

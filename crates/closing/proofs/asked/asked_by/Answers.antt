@@ -1,5 +1,4 @@
 use Rattle.closing.proofs.AskMarks.{asking_start, asking_length, asking_fits, asking_number, asking_more, asking_end}
-use native.Mathlib.Omega.{arith}
 use Rattle.closing.proofs.asked.asked_by.Goals as goal
 
 pub loop-i-init : goal.loop-i-init
@@ -7,9 +6,6 @@ loop-i-init c = search asking_start
 
 pub mark_asks-requires : goal.mark_asks-requires
 mark_asks-requires c = (search asking_length, search asking_fits, search asking_number)
-
-pub loop-i-smaller : goal.loop-i-smaller
-loop-i-smaller c = omega arith
 
 pub loop-i-preserved : goal.loop-i-preserved
 loop-i-preserved c = search asking_more

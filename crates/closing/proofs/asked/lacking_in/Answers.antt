@@ -6,11 +6,5 @@ use Rattle.closing.proofs.asked.lacking_in.Goals.{else-set-carriers-eq0, then-se
 pub loop-q-init : goal.loop-q-init
 loop-q-init c = (omega arith, search lacking_start)
 
-pub offset_bounds-carriers-q : goal.offset_bounds-carriers-q
-offset_bounds-carriers-q c = omega arith
-
-pub loop-q-smaller : goal.loop-q-smaller
-loop-q-smaller c = omega arith
-
 pub loop-q-preserved : goal.loop-q-preserved
 loop-q-preserved c = (omega arith, elim c.if-set-carriers-eq0.branch [ then-set-carriers-eq0 w ↦ search lacking_more | else-set-carriers-eq0 w ↦ search lacking_same ])

@@ -19,9 +19,6 @@ bounds-c-j-in-loop-j-2 c = search marking_byte_2
 pub mark-requires : goal.mark-requires
 mark-requires c = (search marking_length, search rules, search marking_right)
 
-pub loop-j-smaller : goal.loop-j-smaller
-loop-j-smaller c = omega arith
-
 pub loop-j-preserved : goal.loop-j-preserved
 loop-j-preserved c = marking_more _ _ _ _ _ _ _ _ c.loop-j.invariant (omega arith) _ refl _ c.side-a.ensures _ c.side-b.ensures _ c.mark.ensures
 
