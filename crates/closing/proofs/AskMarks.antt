@@ -25,14 +25,14 @@ use Rattle.policy.specs.Fits.{PolicyFits}
 use Rattle.policy.specs.declared.Policy.{Policy}
 use Rattle.closing.specs.Asks.{side_of, on_side, first_of, second_of, Asks, AsksMarked, AskedBy}
 
--- ---- for `side`
-pub side_first : (x y b : ℕ) → b ≡ x → 0 ≡ side_of x y b
+-- ---- the side that a parameter is on
+side_first : (x y b : ℕ) → b ≡ x → 0 ≡ side_of x y b
 side_first x y b e = rw (eq-eqb b x e)
 
-pub side_second : (x y b : ℕ) → (b ≡ x → ⊥) → b ≡ y → 1 ≡ side_of x y b
+side_second : (x y b : ℕ) → (b ≡ x → ⊥) → b ≡ y → 1 ≡ side_of x y b
 side_second x y b n e = let u = ne_eqb b x n in let v = eq-eqb b y e in rw (u, v)
 
-pub side_neither : (x y b : ℕ) → (b ≡ x → ⊥) → (b ≡ y → ⊥) → 2 ≡ side_of x y b
+side_neither : (x y b : ℕ) → (b ≡ x → ⊥) → (b ≡ y → ⊥) → 2 ≡ side_of x y b
 side_neither x y b n e = let u = ne_eqb b x n in let v = ne_eqb b y e in rw (u, v)
 
 side_is : (x y b a : ℕ) → a ≡ side_of x y b → a < 2 → b ≡ on_side a x y
