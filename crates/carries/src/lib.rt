@@ -20,10 +20,8 @@ pub fn check(g: u8, carries: [Set; Matrix::RIGHTS as usize]) -> Result<(), Refus
     requires { g ≤ rights }
     ensures { code result ≡ carries_refusal g carries }
 {
-    for right in 0..g {
-        if !rights::none_from(carries[right as usize], g) {
-            return Err(Refusal::CarriedRights);
-        }
+    if !(0..g).all(|right| rights::none_from(carries[right as usize], g)) {
+        return Err(Refusal::CarriedRights);
     }
     Ok(())
 }
@@ -32,12 +30,7 @@ pub fn check(g: u8, carries: [Set; Matrix::RIGHTS as usize]) -> Result<(), Refus
 fn alone() -> [Set; Matrix::RIGHTS as usize]
     ensures { (g : ℕ) (l : List ℕ) → result ≡ ends_of g l 0 }
 {
-    let mut all = [rights::NONE; Matrix::RIGHTS as usize];
-    for i in 0..Matrix::RIGHTS {
-        let set = rights::with_right(rights::NONE, i);
-        all[i as usize] = set;
-    }
-    all
+    std::array::from_fn(|i| rights::with_right(rights::NONE, i as u8))
 }
 
 // The ends of the chains from right i that have one link more than those whose ends are given.
@@ -54,8 +47,7 @@ fn further(
     let mut set = rights::with_right(rights::NONE, i);
     for j in 0..g {
         if rights::holds(links, j) {
-            let more = set | ends[j as usize];
-            set = more;
+            set |= ends[j as usize];
         }
     }
     set
@@ -71,8 +63,7 @@ fn one_more(
 {
     let mut next = ends;
     for i in 0..g {
-        let set = further(g, carries, ends, i);
-        next[i as usize] = set;
+        next[i as usize] = further(g, carries, ends, i);
     }
     next
 }
@@ -98,8 +89,7 @@ fn holders(sets: [Set; Matrix::RIGHTS as usize], q: u8) -> Set
     let mut set = rights::NONE;
     for i in 0..Matrix::RIGHTS {
         if rights::holds(sets[i as usize], q) {
-            let more = rights::with_right(set, i);
-            set = more;
+            set = rights::with_right(set, i);
         }
     }
     set
@@ -109,10 +99,5 @@ fn holders(sets: [Set; Matrix::RIGHTS as usize], q: u8) -> Set
 pub fn carriers(carried: [Set; Matrix::RIGHTS as usize]) -> [Set; Matrix::RIGHTS as usize]
     ensures { (g : ℕ) (l : List ℕ) → carried ≡ carried_of g l → result ≡ carriers_of g l }
 {
-    let mut all = [rights::NONE; Matrix::RIGHTS as usize];
-    for q in 0..Matrix::RIGHTS {
-        let set = holders(carried, q);
-        all[q as usize] = set;
-    }
-    all
+    std::array::from_fn(|q| holders(carried, q as u8))
 }

@@ -7,7 +7,7 @@ ghost use Rattle.cases.specs.Cases.{all, tabulate};
 ghost use Rattle.refusals.specs.Numbers.{code};
 ghost use Rattle.protection.specs.Command.{in_conditions, in_operations, named};
 ghost use Rattle.layout.specs.File.{byte};
-ghost use Rattle.commands.specs.Refusals.{condition_fits, condition_fits_at, operation_fits_at, command_refusal};
+ghost use Rattle.commands.specs.Refusals.{condition_fits, operation_fits, condition_fits_at, operation_fits_at, command_refusal};
 ghost use Rattle.commands.specs.Steps.{StepRead, on_cell, on_name};
 ghost use Rattle.commands.specs.Fits.{Fits};
 ghost use Rattle.commands.specs.Contents.{no_command, command_of, condition_of, operation_at, step_of, step_told, operations_of, operations_from, meaning};
@@ -54,25 +54,14 @@ fn condition_fits(part: &[u8], g: u8, at: usize) -> bool
     ensures { result ≡ condition_fits g part.now at }
 {
     let k = part[0];
-    if part[at] < g {
-        if part[at + 1] < k {
-            return part[at + 2] < k;
-        }
-        return false;
-    }
-    false
+    part[at] < g && part[at + 1] < k && part[at + 2] < k
 }
 
 fn conditions_fit(part: &[u8], g: u8, count: usize) -> bool
     requires { (count ≤ conditions) × (3 + 3 * count ≤ length part.now) }
     ensures { result ≡ all (condition_fits_at g part.now) count 0 }
 {
-    for j in 0..count {
-        if !condition_fits(part, g, 3 + 3 * j) {
-            return false;
-        }
-    }
-    true
+    (0..count).all(|j| condition_fits(part, g, 3 + 3 * j))
 }
 
 // The six primitive operations; the numbers are a right and parameters.
@@ -96,8 +85,8 @@ fn read_step(kind: u8, right: u8, first: u8, second: u8, k: u8, g: u8) -> Option
     ensures destroy_object { kind ≡ 6 → step_told result ≡ on_name k right first second (StepRead.DestroyObject first) }
     ensures any_other { (kind < 1) ⊎ (6 < kind) → step_told result ≡ StepRead.Refused }
 {
-    let on_cell = (right < g) & (first < k) & (second < k);
-    let on_name = (right == 0) & (first < k) & (second == 0);
+    let on_cell = right < g && first < k && second < k;
+    let on_name = right == 0 && first < k && second == 0;
     match kind {
         1 if on_cell => Some(Operation::Enter {
             right,
@@ -117,26 +106,28 @@ fn read_step(kind: u8, right: u8, first: u8, second: u8, k: u8, g: u8) -> Option
     }
 }
 
+// The reader does not refuse the step at a place of the section.
+fn operation_fits(part: &[u8], g: u8, at: usize) -> bool
+    requires { at + 4 ≤ length part.now }
+    ensures { result ≡ operation_fits g part.now at }
+{
+    read_step(
+        part[at],
+        part[at + 1],
+        part[at + 2],
+        part[at + 3],
+        part[0],
+        g,
+    )
+    .is_some()
+}
+
 // The reader refuses none of the steps that stand from a place of the section on.
 fn operations_fit(part: &[u8], g: u8, from: usize, count: usize) -> bool
     requires { (count ≤ operations) × (from + 4 * count ≤ length part.now) }
     ensures { result ≡ all (operation_fits_at g part.now from) count 0 }
 {
-    for j in 0..count {
-        let at = from + 4 * j;
-        let step = read_step(
-            part[at],
-            part[at + 1],
-            part[at + 2],
-            part[at + 3],
-            part[0],
-            g,
-        );
-        if step.is_none() {
-            return false;
-        }
-    }
-    true
+    (0..count).all(|j| operation_fits(part, g, from + 4 * j))
 }
 
 // The section of a command fits: its length, how many parameters, conditions and operations there are, and each of these.
@@ -147,10 +138,7 @@ fn check_command(part: &[u8], g: u8) -> Result<(), Refusal>
         return Err(Refusal::SectionLength);
     }
     let k = part[0] as usize;
-    if k < 1 {
-        return Err(Refusal::CommandCounts);
-    }
-    if Command::PARAMETERS < k {
+    if k < 1 || Command::PARAMETERS < k {
         return Err(Refusal::CommandCounts);
     }
     let c = part[1] as usize;
@@ -158,20 +146,14 @@ fn check_command(part: &[u8], g: u8) -> Result<(), Refusal>
         return Err(Refusal::CommandCounts);
     }
     let m = part[2] as usize;
-    if m < 1 {
-        return Err(Refusal::CommandCounts);
-    }
-    if Command::OPERATIONS < m {
+    if m < 1 || Command::OPERATIONS < m {
         return Err(Refusal::CommandCounts);
     }
     let mid = 3 + 3 * c;
     if part.len() != mid + 4 * m {
         return Err(Refusal::SectionLength);
     }
-    if !conditions_fit(part, g, c) {
-        return Err(Refusal::CommandParts);
-    }
-    if !operations_fit(part, g, mid, m) {
+    if !conditions_fit(part, g, c) || !operations_fit(part, g, mid, m) {
         return Err(Refusal::CommandParts);
     }
     Ok(())
@@ -181,18 +163,15 @@ fn command_of(part: &[u8]) -> Command
     requires { (byte part.now 1 ≤ conditions) × (byte part.now 2 ≤ operations) × (length part.now ≡ 3 + 3 * byte part.now 1 + 4 * byte part.now 2) }
     ensures { result ≡ command_of part.now }
 {
-    let c = part[1];
-    let m = part[2];
-    let mid = 3 + 3 * (c as usize);
-    let end = part.len();
+    let (conditions, operations) = part[3..].split_at(3 * (part[1] as usize));
     let mut condition = [0u8; 3 * Command::CONDITIONS];
-    condition[..mid - 3].copy_from_slice(&part[3..mid]);
+    condition[..conditions.len()].copy_from_slice(conditions);
     let mut operation = [0u8; 4 * Command::OPERATIONS];
-    operation[..end - mid].copy_from_slice(&part[mid..end]);
+    operation[..operations.len()].copy_from_slice(operations);
     Command {
         parameters: part[0],
-        conditions: c,
-        operations: m,
+        conditions: part[1],
+        operations: part[2],
         condition,
         operation,
     }
@@ -261,26 +240,15 @@ impl Command {
         requires { self.conditions ≤ conditions }
         ensures { result ≡ in_conditions b (tabulate (condition_of self) self.conditions 0) }
     {
-        let n = self.conditions as usize;
-        for j in 0..n {
-            if (b == self.condition[3 * j + 1]) | (b == self.condition[3 * j + 2]) {
-                return true;
-            }
-        }
-        false
+        (0..self.conditions as usize).any(|j| b == self.condition[3 * j + 1]
+            || b == self.condition[3 * j + 2])
     }
 
     fn in_operations(self, b: u8) -> bool
         requires { self.operations ≤ operations }
         ensures { result ≡ in_operations b (operations_from self self.operations 0) }
     {
-        let n = self.operations as usize;
-        for j in 0..n {
-            if step_names(self.step_at(j), b) {
-                return true;
-            }
-        }
-        false
+        (0..self.operations as usize).any(|j| step_names(self.step_at(j), b))
     }
 
     // A condition or an operation names parameter b.
@@ -288,6 +256,6 @@ impl Command {
         requires { (self.conditions ≤ conditions) × (self.operations ≤ operations) }
         ensures { result ≡ named (meaning self) b }
     {
-        self.in_conditions(b) | self.in_operations(b)
+        self.in_conditions(b) || self.in_operations(b)
     }
 }

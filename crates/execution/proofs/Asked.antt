@@ -54,8 +54,8 @@ module _ (ks cs carriers a : List ℕ) (c : Command) (j x y : ℕ) (ex : x ≡ g
       }
 
   -- no other meets any
-  pub condition_lacks : b ≡ false → HeldBy ks cs carriers a c j false
-  condition_lacks t = let z : inside ks x y ≡ false = sym d ∙ t in record { is = λ S M. sym (at_names S ∙ rw z) }
+  pub condition_lacks : b ≡ false → HeldBy ks cs carriers a c j b
+  condition_lacks t = let z : inside ks x y ≡ false = sym d ∙ t in record { is = λ S M. t ∙ sym (at_names S ∙ rw z) }
 
 -- what is left of the conditions, from where the loop stands, is the whole
 pub record Asking (ks cs carriers a : List ℕ) (c : Command) (n j : ℕ) : Type 0 where

@@ -47,12 +47,7 @@ fn run_operations(
 }
 
 // All operations, or none. A single one that cannot be done has changed nothing, so that no copy is kept for it.
-fn run_all(
-    matrix: &mut Matrix,
-    c: Command,
-    a: [u8; Command::PARAMETERS],
-    right: u8,
-) -> Option<bool>
+fn run_all(matrix: &mut Matrix, c: Command, a: [u8; Command::PARAMETERS], right: u8) -> Option<bool>
     requires { Canonical rights matrix.old.kinds matrix.old.cells × OperationsApply a c }
     ensures { RanAs right matrix.old a c matrix.new (ran_told result) (Unit {0}) }
 {

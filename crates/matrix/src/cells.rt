@@ -29,12 +29,7 @@ impl Matrix {
         requires { g ≤ rights }
         ensures { result ≡ all (cell_fits g self.now.kinds self.now.cells) (names * names) 0 }
     {
-        for c in 0..self.cells.len() {
-            if !self.cell_fits(g, c) {
-                return false;
-            }
-        }
-        true
+        (0..self.cells.len()).all(|c| self.cell_fits(g, c))
     }
 
     // A file with g rights may hold the matrix.

@@ -43,8 +43,7 @@ impl Matrix {
         requires { (q < rights) × (s < names) × (o < names) }
         ensures { result ≡ deleted self q s o }
     {
-        let at = Matrix::NAMES * s + o;
-        self.cells[at] = rights::without_right(self.cells[at], q);
+        self.delete(q, s, o);
         self
     }
 
@@ -100,4 +99,3 @@ pub fn is_object(kind: u8) -> bool
 {
     0 < kind
 }
-

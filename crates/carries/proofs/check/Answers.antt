@@ -1,26 +1,23 @@
-use native.Mathlib.Nat.{sub-zero}
-use Rattle.cases.proofs.Loops.{all_stop, all_more, all_end}
-use Rattle.carries.proofs.Refusing.{refused_44, not_refused}
+use mathlib.Core.Path.{◌≡◌, sym, ◌∙◌}
+use mathlib.Core.Bool.{true, false}
 use native.Mathlib.Omega.{arith}
+use Rattle.std.proofs.Common.{rules, tests}
+use Rattle.std.proofs.lemmas.Iterator.{cases_from_all, YieldsList-from_range}
+use Rattle.cases.proofs.Slices.{all_of_range}
+use Rattle.carries.specs.Refusals.{carry_fits}
+use Rattle.carries.proofs.Refusing.{refused_44, not_refused}
 use Rattle.carries.proofs.check.Goals as goal
 
-pub loop-right-init : goal.loop-right-init
-loop-right-init c = (omega arith, rw sub-zero)
-
-pub offset_bounds-carries-right : goal.offset_bounds-carries-right
-offset_bounds-carries-right c = omega arith
-
-pub returns-then-not-none_from : goal.returns-then-not-none_from
-returns-then-not-none_from c = search (refused_44, all_stop)
-
-pub overflow_step-right : goal.overflow_step-right
-overflow_step-right c = omega arith
-
-pub loop-right-smaller : goal.loop-right-smaller
-loop-right-smaller c = omega arith
-
-pub loop-right-preserved : goal.loop-right-preserved
-loop-right-preserved c = (omega arith, search all_more)
+pub returns-then-not-all : goal.returns-then-not-all
+returns-then-not-all c =
+    let g = c.args.g in
+    let fit = carry_fits g c.args.carries in
+    refused_44 _ _ (sym c.if-not-all.true ∙ all_of_range fit (λ i. fit i ≡ true) (λ i. fit i ≡ false) 0 g _ (λ i l h e. e) (λ i l h e. e)
+    (cases_from_all _ _ _ (λ i. fit i ≡ true) (λ i. fit i ≡ false) c.all.ensures.ran (YieldsList-from_range 0 g g (search rules) (omega arith)) (λ x q k. search (rules, tests)) (λ x q k. search (rules, tests))))
 
 pub returns : goal.returns
-returns c = search (not_refused, all_end)
+returns c =
+    let g = c.args.g in
+    let fit = carry_fits g c.args.carries in
+    not_refused _ _ (sym c.if-not-all.false ∙ all_of_range fit (λ i. fit i ≡ true) (λ i. fit i ≡ false) 0 g _ (λ i l h e. e) (λ i l h e. e)
+    (cases_from_all _ _ _ (λ i. fit i ≡ true) (λ i. fit i ≡ false) c.all.ensures.ran (YieldsList-from_range 0 g g (search rules) (omega arith)) (λ x q k. search (rules, tests)) (λ x q k. search (rules, tests))))

@@ -1,10 +1,4 @@
-use Prim.Native.Nat.{◌≤◌, ◌-◌}
-use mathlib.Core.Path.{◌≡◌}
 use native.Mathlib.Nat.{sub-zero}
-use Rattle.cases.specs.Cases.{tabulate}
-use Rattle.protection.specs.Need.{holds_all}
-use Rattle.matrix.specs.Bytes.{view}
-use Rattle.goals.specs.Goals.{needed_at}
 use Rattle.goals.proofs.Holding.{cell_stop, cell_next, cells_end}
 use native.Mathlib.Omega.{arith}
 use Rattle.goals.proofs.all_held.Goals as goal

@@ -7,6 +7,3 @@ use Rattle.layout.proofs.check_pairs.Given as goal
 
 abbrev pub invariant-loop-i : goal.invariant-loop-i
 invariant-loop-i l = (l.i ≤ l.pairs) × (l.at ≡ start_of l.file l.i) × (all (in_place l.file) (l.pairs - l.i) l.i ≡ all (in_place l.file) l.pairs 0)
-
-abbrev pub decreases-loop-i : goal.decreases-loop-i
-decreases-loop-i l = l.pairs - l.i

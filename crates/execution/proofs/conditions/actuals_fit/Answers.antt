@@ -1,12 +1,5 @@
-use Prim.Native.Nat.{◌≤◌, ◌-◌}
-use mathlib.Core.Path.{◌≡◌, refl}
 use native.Mathlib.Nat.{sub-zero}
-use Rattle.cases.specs.Cases.{all}
 use Rattle.cases.proofs.Loops.{all_stop, all_more, all_end}
-use Rattle.protection.specs.Command.{values_of}
-use Rattle.protection.specs.Execution.{bounded, actual_fits}
-use Rattle.commands.specs.Contents.{meaning}
-use borrow.Author.Rules.{rules}
 use native.Mathlib.Omega.{arith}
 use Rattle.execution.proofs.conditions.actuals_fit.Goals as goal
 

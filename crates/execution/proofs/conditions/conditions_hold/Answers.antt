@@ -1,10 +1,6 @@
-use Prim.Native.Nat.{◌-◌}
-use Rattle.execution.proofs.Asked.{Asking, asking_start, asking_stop, asking_more, asking_end}
+use Rattle.execution.proofs.Asked.{asking_start, asking_stop, asking_more, asking_end}
 use native.Mathlib.Omega.{arith}
 use Rattle.execution.proofs.conditions.conditions_hold.Goals as goal
-
-pub overflow_cast-n : goal.overflow_cast-n
-overflow_cast-n c = omega arith
 
 pub loop-j-init : goal.loop-j-init
 loop-j-init c = search asking_start

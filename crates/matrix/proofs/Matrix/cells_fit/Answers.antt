@@ -1,22 +1,14 @@
-use native.Mathlib.Nat.{sub-zero}
-use Rattle.cases.proofs.Loops.{all_end, all_stop, all_more}
+use mathlib.Core.Path.{◌≡◌}
+use mathlib.Core.Bool.{true, false}
 use native.Mathlib.Omega.{arith}
+use Rattle.std.proofs.Common.{rules, tests}
+use Rattle.std.proofs.lemmas.Iterator.{cases_from_all, YieldsList-from_range}
+use Rattle.cases.proofs.Slices.{all_of_range}
+use Rattle.matrix.specs.Refusals.{cell_fits}
 use Rattle.matrix.proofs.Matrix.cells_fit.Goals as goal
 
-pub loop-c-init : goal.loop-c-init
-loop-c-init c = (omega arith, rw sub-zero)
-
-pub returns-then-not-cell_fits : goal.returns-then-not-cell_fits
-returns-then-not-cell_fits c = search all_stop
-
-pub overflow_step-c : goal.overflow_step-c
-overflow_step-c c = omega arith
-
-pub loop-c-smaller : goal.loop-c-smaller
-loop-c-smaller c = omega arith
-
-pub loop-c-preserved : goal.loop-c-preserved
-loop-c-preserved c = (omega arith, search all_more)
-
 pub returns : goal.returns
-returns c = search all_end
+returns c =
+    let fit = cell_fits c.args.g c.args.self.now.kinds c.args.self.now.cells in
+    all_of_range fit (λ i. fit i ≡ true) (λ i. fit i ≡ false) 0 _ _ (λ i l h e. e) (λ i l h e. e)
+    (cases_from_all _ _ _ (λ i. fit i ≡ true) (λ i. fit i ≡ false) c.all.ensures.ran (YieldsList-from_range 0 1024 1024 (search rules) (omega arith)) (λ x q k. search (rules, tests)) (λ x q k. search (rules, tests)))

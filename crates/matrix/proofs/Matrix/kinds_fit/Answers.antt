@@ -1,23 +1,12 @@
-use native.Mathlib.Nat.{sub-zero}
-use Rattle.cases.proofs.Loops.{all_end}
-use Rattle.matrix.proofs.Tests.{kind_stop, kind_more}
-use native.Mathlib.Omega.{arith}
+use Prim.Native.Nat.{◌<◌, ◌≤◌}
+use borrow.Author.Tests.{le-leb, lt-leb}
+use Rattle.std.proofs.Common.{rules, tests}
+use Rattle.std.proofs.lemmas.Iterator.{cases_from_all, YieldsList-from_slice}
+use Rattle.cases.proofs.Slices.{all_of_slice}
 use Rattle.matrix.proofs.Matrix.kinds_fit.Goals as goal
 
-pub loop-x-init : goal.loop-x-init
-loop-x-init c = (omega arith, rw sub-zero)
-
-pub returns-then-kinds-x-gt2 : goal.returns-then-kinds-x-gt2
-returns-then-kinds-x-gt2 c = search kind_stop
-
-pub overflow_step-x : goal.overflow_step-x
-overflow_step-x c = omega arith
-
-pub loop-x-smaller : goal.loop-x-smaller
-loop-x-smaller c = omega arith
-
-pub loop-x-preserved : goal.loop-x-preserved
-loop-x-preserved c = (omega arith, search kind_more)
-
 pub returns : goal.returns
-returns c = search all_end
+returns c =
+    let ks = c.args.self.now.kinds in
+    all_of_slice _ (λ x. x ≤ 2) (λ x. 2 < x) ks _ 0 _ (search rules) (λ i l. le-leb _ 2) (λ i l. lt-leb _ 2)
+    (cases_from_all _ _ _ (λ x. x ≤ 2) (λ x. 2 < x) c.all.ensures.ran (YieldsList-from_slice ks cc) (λ x q k. search (rules, tests)) (λ x q k. search (rules, tests)))

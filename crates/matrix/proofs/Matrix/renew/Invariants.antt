@@ -5,7 +5,4 @@ use Rattle.matrix.specs.Matrices.{emptied}
 use Rattle.matrix.proofs.Matrix.renew.Given as goal
 
 abbrev pub invariant-loop-j : goal.invariant-loop-j
-invariant-loop-j l = (l.j ≤ 32) × (iterate (emptied l.n) (32 - l.j) l.j l.cells ≡ iterate (emptied l.n) 32 0 l.initial.cells)
-
-abbrev pub decreases-loop-j : goal.decreases-loop-j
-decreases-loop-j l = 32 - l.j
+invariant-loop-j l = (l.j ≤ 32) × (l.self.kinds ≡ l.initial.self.kinds) × (iterate (emptied l.n) (32 - l.j) l.j l.self.cells ≡ iterate (emptied l.n) 32 0 l.initial.self.cells)
