@@ -1,4 +1,4 @@
--- The tests of the reader's loops over the kinds and the cells. Assumes nothing.
+-- The test of one cell. Assumes nothing.
 use Prim.Native.Nat.{ℕ, ◌/◌, ◌%◌, ◌^◌}
 use mathlib.Core.Path.{◌≡◌, refl, sym, ◌∙◌}
 use mathlib.Core.Bool.{Bool, true, false}

@@ -1,27 +1,25 @@
 -- What the reader of a file hands out. Assumes nothing.
-use Prim.Native.Nat.{ℕ, zero, suc, ◌+◌, ◌*◌, ◌-◌, ◌≤◌, ◌<◌}
+use Prim.Native.Nat.{ℕ, suc, ◌+◌, ◌-◌, ◌≤◌, ◌<◌}
 use mathlib.Core.Path.{◌≡◌, refl, sym, ap, ap₂, ◌∙◌}
-use mathlib.Core.Bool.{Bool, true, false}
-use mathlib.Core.List.{List, [], ◌∷◌, ◌++◌, append-nil}
+use mathlib.Core.Bool.{false}
+use mathlib.Core.List.{List}
 use native.Mathlib.Decide.{dec_lt}
 use native.Mathlib.Numerals.{add-one}
 use native.Mathlib.Omega.{arith}
-use borrow.Author.Tests.{ne_eqb, eq-eqb, lt-ltb, le-ltb}
+use borrow.Author.Tests.{ne_eqb, lt-ltb, le-ltb}
 use lib.Dec.{eqb, ltb}
-use lib.ListN.{length, get_or, take, drop, set, replicate, length-append, length-drop, length-replicate, length-set, get_or-replicate, drop_of_length-le, get_or-append, get_or-eq_default}
-use lib.Seq.{take-length, length-take-le, ext_get_or, get_or-append-add, get_or-set_same, get_or-set_other}
+use lib.ListN.{length, get_or, set, replicate, length-set}
+use lib.Seq.{ext_get_or, get_or-set_same, get_or-set_other}
 use Rattle.cases.specs.Cases.{pick, tabulate}
 use Rattle.cases.proofs.Lists.{length_tabulate, get_d_tabulate}
-use Rattle.rights.specs.Bytes.{set_bytes, sets_in}
-use Rattle.protection.specs.Limits.{names, rights, commands}
-use Rattle.matrix.specs.Matrices.{empty_matrix}
+use Rattle.protection.specs.Limits.{commands}
 use Rattle.matrix.specs.declared.Matrix.{Matrix}
-use Rattle.layout.specs.File.{byte, word, rights_of, offset_of, length_of, section, kinds_in, cells_in, carries_in, fixed_pairs, command_in}
+use Rattle.layout.specs.File.{byte, rights_of, kinds_in, cells_in, carries_in, fixed_pairs, command_in}
 use Rattle.layout.specs.Refusals.{or_else, header_refusal, pairs_refusal, sizes_refusal}
 use Rattle.commands.specs.Refusals.{command_refusal}
 use Rattle.matrix.specs.Refusals.{matrix_refusal}
-use Rattle.policy.specs.Refusals.{commands_refusal, refusal}
-use Rattle.policy.specs.Layout.{MatrixInside, CarriesInside, CommandsInside}
+use Rattle.policy.specs.Refusals.{commands_refusal}
+use Rattle.policy.specs.Layout.{SectionInside, MatrixInside, CommandsInside}
 use Rattle.carries.specs.Refusals.{carries_refusal}
 use Rattle.carries.specs.Closed.{carried_of, carriers_of}
 use Rattle.commands.specs.Contents.{no_command, command_of}
@@ -29,31 +27,6 @@ use Rattle.policy.specs.Contents.{command_table, matrix_in, policy_of}
 use Rattle.layout.proofs.Accepted.{HeaderFits, header_accepted, pairs_accepted, sizes_accepted}
 use Rattle.commands.specs.declared.Command.{Command}
 use Rattle.policy.specs.declared.Policy.{Policy}
-
--- ---- the matrix
--- a part of the file that begins where section i does and is as long
-section_part : (f : List ℕ) (i w n : ℕ) → w ≡ offset_of f i → length_of f i ≡ n → take (w + n - w) (drop w f) ≡ section f i
-section_part f i w n d e = let u : w + n - w ≡ n = omega arith in ap₂ (λ (a b : ℕ). take a (drop b f)) (u ∙ sym e) d
-
--- sets read from such a part
-sets_read : (f x : List ℕ) (i w n k : ℕ) → w ≡ offset_of f i → length_of f i ≡ n
-    → x ≡ sets_in (length {A = ℕ} (replicate k 0)) (take (w + n - w) (drop w f)) → x ≡ sets_in k (section f i)
-sets_read f x i w n k d e q = q ∙ ap₂ sets_in (length-replicate {A = ℕ} k 0) (section_part f i w n d e)
-
-pub matrix_is : (f x y : List ℕ) (w v : ℕ) → MatrixInside f → w ≡ word f 2 → v ≡ word f 6
-    → x ≡ take (w + names - w) (drop w f)
-    → y ≡ sets_in (length {A = ℕ} (replicate (names * names) 0)) (take (v + set_bytes * (names * names) - v) (drop v f))
-    → ◌≡◌ {A = Matrix} (record { kinds = x; cells = y }) (matrix_in f)
-matrix_is f x y w v h dw dv ex ey =
-    let cs = h.cells_size in
-    let a : x ≡ section f 0 = ex ∙ section_part f 0 w names dw h.kinds_size in
-    let b : y ≡ cells_in f = sets_read f y 1 v (set_bytes * (names * names)) (names * names) dv cs ey in
-    rw (a, b)
-
--- ---- the carries
-pub carries_read : (f x : List ℕ) (g w : ℕ) → CarriesInside f g → w ≡ word f 10
-    → x ≡ sets_in (length {A = ℕ} (replicate rights 0)) (take (w + set_bytes * g - w) (drop w f)) → x ≡ carries_in f
-carries_read f x g w h d e = sets_read f x 2 w (set_bytes * g) rights d h.size e
 
 -- ---- the commands
 abbrev table_at : List ℕ → ℕ → ℕ → Command
@@ -97,9 +70,6 @@ pub or_next : (r a b : ℕ) → 0 ≡ a → r ≡ b → r ≡ or_else a b
 or_next r a b z e = rw (← z) e
 
 -- ---- one turn of the reader's loop
-pub part_is : (f : List ℕ) (i w v : ℕ) → w ≡ offset_of f (fixed_pairs + i) → v ≡ length_of f (fixed_pairs + i) → take (w + v - w) (drop w f) ≡ command_in f i
-part_is f i w v d e = let u : w + v - w ≡ v = omega arith in ap₂ (λ (a b : ℕ). take a (drop b f)) (u ∙ e) d
-
 module _ (f : List ℕ) (g n i r : ℕ) (d : g ≡ rights_of f) (e : r ≡ command_refusal g (command_in f i)) (h : i < n) where
   refusal_is : command_refusal (rights_of f) (command_in f i) ≡ r
   refusal_is = sym (e ∙ ap (λ (z : ℕ). command_refusal z (command_in f i)) d)
@@ -138,10 +108,10 @@ module _ (f : List ℕ) (zh : 0 ≡ header_refusal f) (zp : 0 ≡ pairs_refusal 
         cells_end = pairs_accepted f (sym zp) 1 (omega arith);
       }
 
-  pub carries_inside : CarriesInside f (byte f 0)
+  pub carries_inside : SectionInside f 2
   carries_inside =
       let k = (header_fits f zh).fixed-pairs in let l = (header_fits f zh).table in
-      record { pairs = omega arith; few = (header_fits f zh).few_rights; size = (sizes_accepted f (sym zs)).2; end = pairs_accepted f (sym zp) 2 (omega arith) }
+      record { pair = omega arith; end = pairs_accepted f (sym zp) 2 (omega arith) }
 
   pub commands_inside : CommandsInside f (byte f 1 - fixed_pairs)
   commands_inside =

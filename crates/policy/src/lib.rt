@@ -1,15 +1,15 @@
 // The whole file: its matrix, what its rights carry and its commands, read or refused (document 01, refusals 1 to 9; document 02, C-19, 44).
 #![tactic(auto)]
 
-ghost use Rattle.std.specs.Prelude.{◌≡◌, ◌<◌, get_or, IfOk};
+ghost use Rattle.std.specs.Prelude.{◌≡◌, ◌+◌, ◌<◌, get_or, IfOk};
 ghost use Rattle.protection.specs.Limits.{commands};
 ghost use Rattle.refusals.specs.Numbers.{code};
-ghost use Rattle.layout.specs.File.{rights_of, carries_in, command_in};
+ghost use Rattle.layout.specs.File.{rights_of, section, carries_in, fixed_pairs, command_in};
 ghost use Rattle.commands.specs.Contents.{missing, command_of};
 ghost use Rattle.commands.specs.Refusals.{command_refusal};
 ghost use Rattle.policy.specs.Refusals.{commands_refusal, refusal};
 ghost use Rattle.policy.specs.Contents.{matrix_in, command_table, policy_of};
-ghost use Rattle.policy.specs.Layout.{MatrixInside, CarriesInside, CommandInside, CommandsInside};
+ghost use Rattle.policy.specs.Layout.{SectionInside, MatrixInside, CommandsInside};
 
 use commands::Command;
 use matrix::Matrix;
@@ -41,44 +41,45 @@ impl Policy {
     }
 }
 
+// Section number i of the file.
+fn section(file: &[u8], i: usize) -> &[u8]
+    requires { SectionInside file.now i }
+    ensures { result.now ≡ section file.now i }
+{
+    let start = layout::word_at(file, 2 + 4 * i);
+    let length = layout::word_at(file, 2 + 4 * i + 2);
+    &file[start..start + length]
+}
+
 // The kinds and the cells.
 fn matrix_of(file: &[u8]) -> Matrix
     requires { MatrixInside file.now }
     ensures { result ≡ matrix_in file.now }
 {
-    let k = layout::word_at(file, 2);
-    let k_end = k + Matrix::NAMES;
     let mut kinds = [0u8; Matrix::NAMES];
-    kinds.copy_from_slice(&file[k..k_end]);
-    let c = layout::word_at(file, 6);
-    let c_end = c + rights::bytes::SIZE * (Matrix::NAMES * Matrix::NAMES);
+    kinds.copy_from_slice(section(file, 0));
     let mut cells = [rights::NONE; Matrix::NAMES * Matrix::NAMES];
-    rights::bytes::read_sets(&file[c..c_end], &mut cells);
+    rights::bytes::read_sets(section(file, 1), &mut cells);
     Matrix { kinds, cells }
 }
 
 // The carries, in front of empty sets.
-fn carries_of(file: &[u8], g: u8) -> [Set; Matrix::RIGHTS as usize]
-    requires { CarriesInside file.now g }
+fn carries_of(file: &[u8]) -> [Set; Matrix::RIGHTS as usize]
+    requires { SectionInside file.now 2 }
     ensures { result ≡ carries_in file.now }
 {
-    let start = layout::word_at(file, 10);
-    let end = start + rights::bytes::SIZE * (g as usize);
     let mut carries = [rights::NONE; Matrix::RIGHTS as usize];
-    rights::bytes::read_sets(&file[start..end], &mut carries);
+    rights::bytes::read_sets(section(file, 2), &mut carries);
     carries
 }
 
 // Command number i, read from its own part of the file and no more.
 fn read_at(file: &[u8], g: u8, i: usize) -> Result<Command, Refusal>
-    requires { CommandInside file.now i }
+    requires { SectionInside file.now (fixed_pairs + i) }
     ensures refused { code result ≡ command_refusal g (command_in file.now i) }
     ensures read { IfOk result (λ c. c ≡ command_of (command_in file.now i)) }
 {
-    let p = 2 + 4 * (layout::FIXED + i);
-    let start = layout::word_at(file, p);
-    let end = start + layout::word_at(file, p + 2);
-    commands::read_command(&file[start..end], g)
+    commands::read_command(section(file, layout::FIXED + i), g)
 }
 
 // The commands, or the first refusal among them.
@@ -95,6 +96,7 @@ fn read_commands(file: &[u8], g: u8, count: usize) -> Result<[Command; Policy::C
 }
 
 // What the file says, or why it is refused.
+#[tactic(auto, using(crate::proofs::Policies::header_fits))]
 pub fn read_policy(file: &[u8]) -> Result<Policy, Refusal>
     ensures refused { code result ≡ refusal file.now }
     ensures read { IfOk result (λ p. p ≡ policy_of file.now) }
@@ -106,7 +108,7 @@ pub fn read_policy(file: &[u8]) -> Result<Policy, Refusal>
     layout::check_sizes(file, g)?;
     let matrix = matrix_of(file);
     matrix.check(g)?;
-    let carries = carries_of(file, g);
+    let carries = carries_of(file);
     carries::check(g, carries)?;
     let command = read_commands(file, g, n - layout::FIXED)?;
     let carried = carries::carried(g, carries);

@@ -1,6 +1,6 @@
 -- Replay (document 01): "answers with the number of the first leaking step from 0, or no leak, or the refusal of the first refused step and that step's
 -- number. It reports the first of leak and refusal."
-use Rattle.std.specs.Prelude.{ℕ, suc, ◌%◌, Bool, List, [], ◌∷◌, eqb, leb, length, Option, Some, None, Result, Ok, Err}
+use Rattle.std.specs.Prelude.{ℕ, suc, ◌%◌, List, [], ◌∷◌, eqb, leb, length, Option, Some, None, Result, Ok, Err}
 use Rattle.cases.specs.Cases.{pick}
 use Rattle.protection.specs.State.{State}
 use Rattle.protection.specs.Command.{System, Call}

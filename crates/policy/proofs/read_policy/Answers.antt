@@ -1,30 +1,16 @@
 use mathlib.Core.Path.{refl}
 use Rattle.refusals.proofs.Codes.{number_above, code_handed}
 use Rattle.policy.specs.Refusals.{refusal}
-use Rattle.policy.proofs.Policies.{or_stop, or_next, header_fits, matrix_inside, carries_inside, commands_inside, matrix_refuses, carries_refuse, all_read}
-use native.Mathlib.Omega.{arith}
-use borrow.Author.Rules.{rules}
+use Rattle.policy.proofs.Policies.{or_stop, or_next, matrix_inside, carries_inside, commands_inside, matrix_refuses, carries_refuse, all_read}
 use Rattle.policy.proofs.read_policy.Goals as goal
 
 pub returns-in_err-check_header-clause-refused : goal.returns-in_err-check_header-clause-refused
 unfolding refusal
 returns-in_err-check_header-clause-refused c = code_handed _ _ _ c.from_residual.ensures.1 (search (or_stop, or_next, number_above, c.in_err-check_header.ensures))
 
-pub bounds-file-0 : goal.bounds-file-0
-bounds-file-0 c = let k = header_fits _ c.in_ok-check_header.ensures in omega arith
-
-pub bounds-file-1 : goal.bounds-file-1
-bounds-file-1 c = let k = header_fits _ c.in_ok-check_header.ensures in omega arith
-
-pub check_pairs-requires : goal.check_pairs-requires
-check_pairs-requires c = let k = header_fits _ c.in_ok-check_header.ensures in (refl, k.table)
-
 pub returns-in_err-check_pairs-clause-refused : goal.returns-in_err-check_pairs-clause-refused
 unfolding refusal
 returns-in_err-check_pairs-clause-refused c = code_handed _ _ _ c.from_residual-in_err-check_pairs.ensures.1 (search (or_stop, or_next, number_above, c.in_ok-check_header.ensures, c.in_err-check_pairs.ensures))
-
-pub check_sizes-requires : goal.check_sizes-requires
-check_sizes-requires c = let k = header_fits _ c.in_ok-check_header.ensures in (refl, omega arith)
 
 pub returns-in_err-check_sizes-clause-refused : goal.returns-in_err-check_sizes-clause-refused
 unfolding refusal
@@ -33,9 +19,6 @@ returns-in_err-check_sizes-clause-refused c = code_handed _ _ _ c.from_residual-
 pub matrix_of-matrix-requires : goal.matrix_of-matrix-requires
 matrix_of-matrix-requires c = matrix_inside _ c.in_ok-check_header.ensures c.in_ok-check_pairs.ensures c.in_ok-check_sizes.ensures
 
-pub check-requires : goal.check-requires
-check-requires c = let k = header_fits _ c.in_ok-check_header.ensures in omega arith
-
 pub returns-in_err-check-clause-refused : goal.returns-in_err-check-clause-refused
 unfolding refusal
 returns-in_err-check-clause-refused c = code_handed _ _ _ c.from_residual-in_err-check.ensures.1 (search (or_stop, or_next, number_above, c.in_ok-check_header.ensures, c.in_ok-check_pairs.ensures, c.in_ok-check_sizes.ensures, matrix_refuses, c.matrix_of-matrix.ensures, c.in_err-check.ensures))
@@ -43,15 +26,9 @@ returns-in_err-check-clause-refused c = code_handed _ _ _ c.from_residual-in_err
 pub carries_of-carries-requires : goal.carries_of-carries-requires
 carries_of-carries-requires c = carries_inside _ c.in_ok-check_header.ensures c.in_ok-check_pairs.ensures c.in_ok-check_sizes.ensures
 
-pub check-requires-2 : goal.check-requires-2
-check-requires-2 c = let k = header_fits _ c.in_ok-check_header.ensures in omega arith
-
 pub returns-in_err-check-2-clause-refused : goal.returns-in_err-check-2-clause-refused
 unfolding refusal
 returns-in_err-check-2-clause-refused c = code_handed _ _ _ c.from_residual-in_err-check-2.ensures.1 (search (or_stop, or_next, number_above, c.in_ok-check_header.ensures, c.in_ok-check_pairs.ensures, c.in_ok-check_sizes.ensures, matrix_refuses, c.matrix_of-matrix.ensures, c.in_ok-check.ensures, carries_refuse, c.carries_of-carries.ensures, c.in_err-check-2.ensures) depth 12)
-
-pub overflow_sub-n : goal.overflow_sub-n
-overflow_sub-n c = let k = header_fits _ c.in_ok-check_header.ensures in omega arith
 
 pub read_commands-requires : goal.read_commands-requires
 read_commands-requires c = (refl, commands_inside _ c.in_ok-check_header.ensures c.in_ok-check_pairs.ensures c.in_ok-check_sizes.ensures)
@@ -59,12 +36,6 @@ read_commands-requires c = (refl, commands_inside _ c.in_ok-check_header.ensures
 pub returns-in_err-command-clause-refused : goal.returns-in_err-command-clause-refused
 unfolding refusal
 returns-in_err-command-clause-refused c = code_handed _ _ _ c.from_residual-in_err-command.ensures.1 (search (or_stop, or_next, number_above, c.in_ok-check_header.ensures, c.in_ok-check_pairs.ensures, c.in_ok-check_sizes.ensures, matrix_refuses, c.matrix_of-matrix.ensures, c.in_ok-check.ensures, carries_refuse, c.carries_of-carries.ensures, c.in_ok-check-2.ensures, c.in_err-command.ensures.refused) depth 12)
-
-pub carried-carried-requires : goal.carried-carried-requires
-carried-carried-requires c = let k = header_fits _ c.in_ok-check_header.ensures in omega arith
-
-pub overflow_sub-result : goal.overflow_sub-result
-overflow_sub-result c = let k = header_fits _ c.in_ok-check_header.ensures in omega arith
 
 pub returns-clause-refused : goal.returns-clause-refused
 unfolding refusal
