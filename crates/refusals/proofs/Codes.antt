@@ -1,5 +1,6 @@
 -- What the number of an answer says of it.
-use Rattle.std.specs.Prelude.{◌≡◌, ◌<◌, Result, Ok, Err, IsErrAnd}
+use mathlib.Core.Path.{sym, ◌∙◌}
+use Rattle.std.specs.Prelude.{ℕ, ◌≡◌, ◌<◌, Result, Ok, Err, IsErrAnd}
 use Rattle.refusals.specs.declared.Refusal.{Refusal}
 use Rattle.refusals.specs.declared.Refusal.TheVariants.{FileLength, RightCount, PairCount, SectionPlace, SectionLength, KindByte, CellRights, CommandCounts, CommandParts, CarriedRights, NoCommand, Actuals, Conditions, Operations, TraceLength, NoRight, SeveralOperations, TooManyNames, ShortBuffer, NeededCells, TrustedNames, LongSheet}
 use Rattle.refusals.specs.Numbers.{number_of, code}
@@ -41,3 +42,15 @@ code_err x r e = rw e
 pub code_on : {A B : Type 0} (x : Result A Refusal) (y : Result B Refusal) (r : Refusal) → x ≡ Err r → IsErrAnd y (λ e. e ≡ r) → code y ≡ code x
 code_on x (Ok b) r e h = elim h [ ]
 code_on x (Err d) r e h = rw (e, h)
+
+-- an answer that has a value refuses nothing, and one that refuses has the number of its error
+pub code_passed : {A : Type 0} (x : Result A Refusal) (a : A) (n : ℕ) → code x ≡ n → x ≡ Ok a → n ≡ 0
+code_passed x a n d e = sym d ∙ code_ok x a e
+
+pub code_refused : {A : Type 0} (x : Result A Refusal) (r : Refusal) (n : ℕ) → code x ≡ n → x ≡ Err r → n ≡ number_of r
+code_refused x r n d e = sym d ∙ code_err x r e
+
+-- what a `?` hands on: y has the error r, whose number a definition says
+pub code_handed : {B : Type 0} (y : Result B Refusal) (r : Refusal) (n : ℕ) → IsErrAnd y (λ e. e ≡ r) → number_of r ≡ n → code y ≡ n
+code_handed (Ok b) r n h d = elim h [ ]
+code_handed (Err e) r n h d = rw h d
