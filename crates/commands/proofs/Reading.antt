@@ -1,10 +1,10 @@
 -- What the reader of a step answers: it is `step_read`; what it does not refuse is an operation within the limits. Assumes nothing.
-use Prim.Native.Nat.{ℕ, zero, suc, ◌+◌, ◌*◌, ◌-◌, ◌≤◌, ◌<◌}
+use Prim.Native.Nat.{ℕ, zero, suc, ◌+◌, ◌-◌, ◌≤◌, ◌<◌}
 use mathlib.Core.Path.{◌≡◌, refl, sym, ap, ap₂, ◌∙◌, subst}
-use mathlib.Core.Bool.{Bool, true, false, ◌&&◌, ◌||◌, or-false}
+use mathlib.Core.Bool.{Bool, true, false, ◌&&◌}
 use mathlib.Core.List.{List, [], ◌∷◌, ◌++◌}
 use Rattle.std.specs.Prelude.{Option, Some, None, is_some}
-use mathlib.Core.Logic.{◌⊎◌, inl, inr, ⊎_elim}
+use mathlib.Core.Logic.{◌⊎◌, inl, inr}
 use native.Mathlib.Omega.{arith}
 use native.Mathlib.Decide.{dec_lt, ℕ_discrete}
 use native.Mathlib.Numerals.{add-one}
@@ -12,7 +12,7 @@ use borrow.Author.Tests.{eq-eqb, ne_eqb, lt-ltb}
 use lib.Dec.{T, eqb, ltb, ltb→lt}
 use lib.ListN.{length, length-append}
 use Rattle.cases.specs.Cases.{pick}
-use Rattle.cases.proofs.Bools.{both, and_left, and_right, and_intro, is_true, or_left, holds as test-holds}
+use Rattle.cases.proofs.Bools.{both, and_intro, or_left, holds as test-holds}
 use Rattle.protection.specs.Limits.{rights}
 use Rattle.protection.specs.Command.{Operation as ModelOperation, enter, delete, create_subject, create_object, destroy_subject, destroy_object, in_operation, in_operations}
 use Rattle.protection.specs.Judge.{first_operation, operation_in}
@@ -20,13 +20,13 @@ use Rattle.protection.proofs.Calls.{OperationBelow}
 use Rattle.commands.specs.Steps.{StepRead, Enter, Delete, CreateSubject, CreateObject, DestroySubject, DestroyObject, Refused, on_cell, on_name, step_read, is_read}
 use Rattle.layout.specs.File.{byte}
 use Rattle.commands.specs.Refusals.{operation_fits}
-use Rattle.commands.specs.Contents.{step_in, operation_at, operations_of, operations_from, model_of, step_of, step_told, meaning}
-use Rattle.commands.specs.Fits.{Reads, Fits}
+use Rattle.commands.specs.Contents.{operation_at, operations_of, operations_from, model_of, step_of, step_told, meaning}
+use Rattle.commands.specs.Fits.{Fits}
 use Rattle.commands.specs.declared.Command.{Command}
 use Rattle.commands.specs.declared.Operation.{Operation}
 use Rattle.commands.specs.declared.Operation.TheVariants as op
 
--- ---- the reader's contract is an equation
+-- ---- the reader's contract says that its answer is `step_read`
 module _ (k g kind q x y : ℕ) (r : StepRead) where
   -- its seven lines
   abbrev Answered : Type 0
@@ -61,34 +61,6 @@ module _ (k g kind q x y : ℕ) (r : StepRead) where
       other : (kind ≡ 1 → ⊥) → (kind ≡ 2 → ⊥) → (kind ≡ 3 → ⊥) → (kind ≡ 4 → ⊥) → (kind ≡ 5 → ⊥) → (kind ≡ 6 → ⊥) → Dec (kind < 1) → (kind < 1) ⊎ (6 < kind)
       other n1 n2 n3 n4 n5 n6 (yes l) = inl l
       other n1 n2 n3 n4 n5 n6 (no l) = inr (omega arith)
-
-  -- and the equation is the contract
-  pub answers : r ≡ step_read k g kind q x y → Answered
-  unfolding step_read
-  answers e =
-      record {
-        enter = at 1;
-        delete = at 2;
-        create_subject = at 3;
-        create_object = at 4;
-        destroy_subject = at 5;
-        destroy_object = at 6;
-        any_other = λ h. e ∙ ⊎_elim (λ l. none (λ n a b z. omega arith)) (λ l. none (λ n a b z. omega arith)) h;
-      }
-    where
-      at : (n : ℕ) → kind ≡ n → r ≡ step_read k g n q x y
-      at n z = e ∙ ap (λ (i : ℕ). step_read k g i q x y) z
-
-      none : ((n : ℕ) → 1 ≤ n → n ≤ 6 → kind ≡ n → ⊥) → step_read k g kind q x y ≡ Refused
-      none f =
-          rw (
-            ne_eqb kind 1 (f 1 (omega arith) (omega arith)),
-            ne_eqb kind 2 (f 2 (omega arith) (omega arith)),
-            ne_eqb kind 3 (f 3 (omega arith) (omega arith)),
-            ne_eqb kind 4 (f 4 (omega arith) (omega arith)),
-            ne_eqb kind 5 (f 5 (omega arith) (omega arith)),
-            ne_eqb kind 6 (f 6 (omega arith) (omega arith)),
-          )
 
 -- ---- whether a step is read
 -- an answer with an operation is a step that is read
