@@ -1,6 +1,5 @@
 -- A step that is looked for: the first call that makes it.
-use Rattle.std.specs.Prelude.{ℕ, ◌+◌, ◌*◌, ◌≤◌, ◌<◌, ◌≡◌, Bool, true, false, List, ltb, get_or}
-use Rattle.std.specs.Prelude.{Option as Answered, Some, None}
+use Rattle.std.specs.Prelude.{ℕ, ◌+◌, ◌*◌, ◌≤◌, ◌<◌, ◌≡◌, Bool, true, false, List, ltb, get_or, Option as Answered, Some, None}
 use Rattle.std.proofs.Math.Option.{Option, none, some}
 use Rattle.cases.specs.Cases.{pick}
 use Rattle.rights.specs.Rights.{has, delete}

@@ -1,7 +1,6 @@
 -- Rights that carry others (document 02, C-19): conditions met by what a cell's rights carry; and what looks at the cell's own bits.
 use Rattle.std.specs.Prelude.{ℕ, List, [], ◌∷◌, ◌++◌, replicate}
-use Rattle.trace.specs.Replays.{Replay}
-use Rattle.trace.specs.Replays.{NoLeak, Leak, Refused as RefusedAt}
+use Rattle.trace.specs.Replays.{Replay, NoLeak, Leak, Refused as RefusedAt}
 use Rattle.safety.specs.Demand3.{Safe, Unsafe}
 use Rattle.needs.specs.Needed.{Held, Never}
 use Rattle.protection.specs.Command.{Call}

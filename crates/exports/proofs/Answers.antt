@@ -3,15 +3,12 @@ use Prim.Native.Nat.{ℕ}
 use mathlib.Core.List.{List}
 use lib.ListN.{length}
 use mathlib.Core.Path.{◌≡◌, refl, sym, ap, ◌∙◌, subst}
-use Rattle.trace.specs.Replays.{Replay}
-use Rattle.trace.specs.Replays.{NoLeak, Leak, Refused}
+use Rattle.trace.specs.Replays.{Replay, NoLeak, Leak, Refused}
 use Rattle.safety.specs.Demand3.{steps_written}
 use Rattle.safety.specs.Judgement.{judgement_code, Judged}
 use Rattle.safety.specs.Demand3.{Judgement}
 use Rattle.exports.specs.Replay.{ReplayAnswer}
-use Rattle.needs.specs.Needed.{file_need, need_code, steps_taken, Needed}
-use Rattle.needs.specs.Needed.{Need}
-use Rattle.needs.specs.Needed.{Refused as Declined, Held, Never}
+use Rattle.needs.specs.Needed.{file_need, need_code, steps_taken, Needed, Need, Refused as Declined, Held, Never}
 use Rattle.exports.specs.Judge.{JudgeAnswer}
 use Rattle.parts.specs.Parts.{PartJudged}
 use Rattle.exports.specs.Part.{PartAnswer}

@@ -18,8 +18,7 @@ use Rattle.policy.proofs.Laws.{read_refusal, read_policy}
 use Rattle.trace.specs.Traces.{calls}
 use Rattle.safety.specs.Demand3.{steps_written}
 use Rattle.safety.specs.Judgement.{judge_refusal, file_verdict, file_judgement, bytes_of, filled, Judged}
-use Rattle.safety.specs.Demand3.{Judgement}
-use Rattle.safety.specs.Demand3.{Safe, Unsafe}
+use Rattle.safety.specs.Demand3.{Judgement, Safe, Unsafe}
 use Rattle.safety.proofs.Refusals.{none_refused, judges, refuses, fills}
 use Rattle.safety.proofs.Buffers.{bytes_length, calls_back}
 use Rattle.listing.specs.Listing.{head, refused_word, buffer_bytes, printed, listing}

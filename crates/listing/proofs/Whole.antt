@@ -6,9 +6,7 @@ use native.Mathlib.Omega.{arith}
 use lib.ListN.{length, length-append}
 use Rattle.policy.specs.declared.Policy.{Policy}
 use Rattle.trace.specs.Traces.{calls}
-use Rattle.safety.specs.Demand3.{steps_written}
-use Rattle.safety.specs.Demand3.{Judgement}
-use Rattle.safety.specs.Demand3.{Refused, Safe, Unsafe}
+use Rattle.safety.specs.Demand3.{steps_written, Judgement, Refused, Safe, Unsafe}
 use Rattle.listing.specs.Listing.{decimal, newline, safe_word, unsafe_word, refused_word, head, lines, printed}
 use Rattle.listing.specs.Writing.{Put, Room, listing_bytes}
 use Rattle.listing.proofs.Written.{byte_digits, count-digits, put_then}

@@ -48,8 +48,7 @@ use Rattle.safety.specs.Judgement.{filled}
 use Rattle.safety.proofs.Buffers.{calls_back, buffer_filled}
 use Rattle.needs.specs.Needed.{list_refusal, need_refusal, file_rounds, need_of, file_need, steps_taken, need_buffer, Needed}
 use Rattle.needs.specs.Rounds.{need_rounds, NeedRounded}
-use Rattle.needs.specs.Needed.{Need}
-use Rattle.needs.specs.Needed.{Refused, Held, Never}
+use Rattle.needs.specs.Needed.{Need, Refused, Held, Never}
 use Rattle.needs.proofs.Listed.{Listed, listed, taken_there, goal_fits}
 
 -- ---- the rounds of a goal of cells

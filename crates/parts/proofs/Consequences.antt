@@ -19,8 +19,7 @@ use Rattle.trace.specs.Traces.{calls}
 use Rattle.trace.specs.Replays.{file_replay, replay_code, replay_step}
 use Rattle.safety.specs.Demand3.{steps_written, is_unsafe}
 use Rattle.safety.specs.Judgement.{judgement_of, file_judgement, file_buffer}
-use Rattle.safety.specs.Demand3.{Judgement}
-use Rattle.safety.specs.Demand3.{Refused, Safe, Unsafe}
+use Rattle.safety.specs.Demand3.{Judgement, Refused, Safe, Unsafe}
 use Rattle.safety.proofs.Refusals.{answers, turned_down, untouched}
 use Rattle.parts.specs.Parts.{left_out, part_refusal, file_part, part_verdict, part_judgement, part_buffer, PartJudged}
 

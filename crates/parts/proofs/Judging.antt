@@ -40,13 +40,11 @@ use Rattle.goals.specs.Goals.{leak_goal}
 use Rattle.visits.specs.Engine.{bound_of, Asked}
 use Rattle.questions.proofs.Refusals.{Sized, sized, goal_asked}
 use Rattle.trace.specs.Traces.{calls}
-use Rattle.trace.specs.Replays.{file_replay}
-use Rattle.trace.specs.Replays.{Leak}
+use Rattle.trace.specs.Replays.{file_replay, Leak}
 use Rattle.safety.specs.Demand3.{is_unsafe, steps_written, Demand3}
 use Rattle.safety.specs.Judgement.{caller_refusal, judge_refusal, file_verdict, judgement_of, judgement_by, file_judgement, filled, buffer_by, file_buffer, Judged}
 use Rattle.safety.specs.Conclusion.{Concluded}
-use Rattle.safety.specs.Demand3.{Judgement}
-use Rattle.safety.specs.Demand3.{Refused, Safe, Unsafe}
+use Rattle.safety.specs.Demand3.{Judgement, Refused, Safe, Unsafe}
 use Rattle.safety.proofs.Buffers.{calls_back}
 use Rattle.safety.proofs.Refusals.{passed, answers, turned_down, writes, untouched, judges, leak_fits}
 use Rattle.safety.proofs.Demand3.{told, verdict_demand3, not_refused, file_taken, verdict_replays, judged, refusal_first, policy_is, refusal_is}

@@ -15,8 +15,7 @@ use Rattle.safety.specs.Demand3.{steps_written}
 use Rattle.safety.specs.Judgement.{judge_refusal, file_judgement, file_buffer, Judged}
 use Rattle.safety.specs.Conclusion.{PreparedOf}
 use Rattle.safety.specs.declared.Prepared.{Prepared}
-use Rattle.safety.specs.Demand3.{Judgement}
-use Rattle.safety.specs.Demand3.{Refused, Safe, Unsafe}
+use Rattle.safety.specs.Demand3.{Judgement, Refused, Safe, Unsafe}
 use Rattle.safety.proofs.Consequences.{few_written}
 use Rattle.safety.proofs.Refusals.{none_refused, passed, refuses}
 use Rattle.sheets.specs.declared.Entry.{Entry}
