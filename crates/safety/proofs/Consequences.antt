@@ -25,10 +25,8 @@ use Rattle.protection.proofs.Consequences.{settled_still}
 use Rattle.policy.specs.Contents.{file_state, file_system}
 use Rattle.trace.specs.Traces.{step_call, calls}
 use Rattle.trace.specs.Replays.{file_replay, replay_code, replay_step}
-use Rattle.safety.specs.Demand3.{steps_written, is_safe, is_unsafe, Demand3}
+use Rattle.safety.specs.Demand3.{Judgement, Refused, Safe, Unsafe, steps_written, is_safe, is_unsafe, Demand3}
 use Rattle.safety.specs.Judgement.{judge_refusal, file_verdict, judgement_of, Judged}
-use Rattle.safety.specs.Demand3.{Judgement}
-use Rattle.safety.specs.Demand3.{Refused, Safe, Unsafe}
 use Rattle.questions.proofs.Counts.{few_steps}
 use Rattle.safety.proofs.Refusals.{judges, refuses, kept}
 
