@@ -165,12 +165,7 @@ fn print_unsafe(out: &mut [u8], n: usize, p: &Policy, steps: &[u8]) -> usize
 }
 
 // The whole answer, given the judgement and the steps that it wrote.
-fn print(
-    out: &mut [u8],
-    judgement: Result<Verdict, Refusal>,
-    p: &Policy,
-    steps: &[u8],
-) -> usize
+fn print(out: &mut [u8], judgement: Result<Verdict, Refusal>, p: &Policy, steps: &[u8]) -> usize
     requires { Room out.old (steps_written (judgement_told judgement)) steps.now }
     ensures { Put out.old 0 (printed p.now (judgement_told judgement) (calls steps.now (steps_written (judgement_told judgement)))) result out.new }
 {
