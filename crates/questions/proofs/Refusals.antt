@@ -2,21 +2,18 @@
 use Prim.Native.Nat.{ℕ, zero, suc, ◌+◌, ◌*◌, ◌-◌, ◌≤◌, ◌<◌}
 use mathlib.Core.Path.{◌≡◌, refl, sym, ap, ap₂, ◌∙◌, subst}
 use mathlib.Core.Bool.{Bool, true, false, not, ◌&&◌}
-use mathlib.Core.List.{[]}
 use native.Mathlib.Omega.{arith}
-use native.Mathlib.Nat.{sub-zero}
 use native.Mathlib.Decide.{dec_lt}
 use borrow.Author.Tests.{lt-ltb, le-ltb}
 use lib.Dec.{ltb, ltb→lt}
 use lib.ListN.{length, get_or, take}
 use Rattle.cases.specs.Cases.{pick, all, tabulate}
 use Rattle.cases.proofs.Bools.{holds as test-holds}
-use Rattle.cases.proofs.Loops.{all_at, all_false, all_true}
+use Rattle.cases.proofs.Loops.{all_at}
 use Rattle.protection.specs.Limits.{start_names}
 use Rattle.protection.specs.State.{State}
 use Rattle.protection.specs.Size.{names_of, taken_names, step_bound}
 use Rattle.protection.specs.Command.{System}
-use Rattle.matrix.specs.Bytes.{view}
 use Rattle.matrix.specs.Matrices.{state_of}
 use Rattle.commands.specs.Contents.{missing}
 use Rattle.commands.proofs.Reading.{operations_length}
@@ -28,15 +25,9 @@ use Rattle.goals.specs.Goals.{reserved_by, GoalFits}
 use Rattle.goals.proofs.Ending.{none-reserved}
 use Rattle.goals.specs.declared.Goal.{Goal}
 use Rattle.visits.specs.Engine.{bound_of, command_number, Asked}
-use Rattle.refusals.specs.declared.Refusal.{Refusal}
-use Rattle.refusals.specs.Numbers.{code}
-use Rattle.refusals.proofs.Codes.{code_on, code_ok, number_above}
 use Rattle.std.proofs.lemmas.List.{length-take-le, get_or-take, get_or_past}
 use Rattle.layout.proofs.Accepted.{or-else}
-use Rattle.layout.proofs.OrElse.{or_first, or_second}
 use Rattle.questions.specs.Refusals.{single_operations, start_refusal, size_refusal}
-use Rattle.questions.specs.Rounded.{BasisOf}
-use Rattle.questions.specs.declared.Basis.{Basis}
 
 -- ---- commands of one operation, by their numbers
 abbrev pub one_operation : Policy → ℕ → Bool
@@ -74,9 +65,6 @@ module _ (p : Policy) (F : PolicyFits p) where
 
   pub single_is : (r : Bool) → r ≡ all (one_operation p) p.commands 0 → r ≡ single_operations (system_of p).commands
   single_is r e = e ∙ sym (single_all p F p.commands 0 (omega arith))
-
-pub basis_fits : (x : Basis) → ((p : Policy) × BasisOf p x) → 5 * x.bound < 18446744073709551616
-basis_fits x B = omega (arith, B.1.bound_few)
 
 -- ---- a question that is not refused
 not_less : (a b : ℕ) → ltb a b ≡ false → b ≤ a
