@@ -1,9 +1,8 @@
 -- A sheet of questions on a file (document 02, C-17): its refusal, its entries and the buffer after the call, and what is promised of each entry.
 use Rattle.std.specs.Prelude.{ℕ, ◌*◌, ◌/◌, ◌≤◌, ◌<◌, ◌≡◌, List, [], ◌∷◌, ◌++◌, ltb, length, get_or, take, drop, Result, IfOk}
 use Rattle.cases.specs.Cases.{pick}
-use Rattle.safety.specs.Demand3.{steps_written}
+use Rattle.safety.specs.Demand3.{Judgement, steps_written}
 use Rattle.safety.specs.Judgement.{file_judgement, judgement_code, file_buffer, Judged}
-use Rattle.safety.specs.Demand3.{Judgement}
 use Rattle.sheets.specs.declared.Entry.{Entry}
 use Rattle.refusals.specs.Numbers.{code}
 use Rattle.refusals.specs.declared.Refusal.{Refusal}
