@@ -34,11 +34,7 @@ fn kind_of(kinds: &[u8; Matrix::NAMES], x: u8) -> u8
     requires { length kinds.now ≡ names }
     ensures { result ≡ get_or kinds.now x 0 }
 {
-    let at = x as usize;
-    if at < Matrix::NAMES {
-        return kinds[at];
-    }
-    0
+    kinds.get(x as usize).copied().unwrap_or(0)
 }
 
 // Cell j of the list is of a right below g, a subject and a name that exists.
@@ -47,16 +43,9 @@ fn cell_taken<'a>(g: u8, kinds: &'a [u8; Matrix::NAMES], list: &'a [u8], j: usiz
     ensures { result ≡ cell_taken g (view kinds.now []) (needed_at list.now j) }
 {
     let at = 3 * j;
-    let q = list[at];
-    let s = list[at + 1];
-    let o = list[at + 2];
-    if g <= q {
-        return false;
-    }
-    if !matrix::is_subject(kind_of(kinds, s)) {
-        return false;
-    }
-    matrix::is_object(kind_of(kinds, o))
+    list[at] < g
+        && matrix::is_subject(kind_of(kinds, list[at + 1]))
+        && matrix::is_object(kind_of(kinds, list[at + 2]))
 }
 
 // So are the first n cells.
@@ -64,12 +53,7 @@ fn cells_taken<'a>(g: u8, kinds: &'a [u8; Matrix::NAMES], list: &'a [u8], n: usi
     requires { (length kinds.now ≡ names) × (3 * n ≤ length list.now) }
     ensures { result ≡ cells_taken g (view kinds.now []) (tabulate (needed_at list.now) n 0) }
 {
-    for j in 0..n {
-        if !cell_taken(g, kinds, list, j) {
-            return false;
-        }
-    }
-    true
+    (0..n).all(|j| cell_taken(g, kinds, list, j))
 }
 
 // The list may be asked for: refusal 41.
