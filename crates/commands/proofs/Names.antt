@@ -1,5 +1,5 @@
 -- The parameters that a command names: the loops that look for one, and what is named. Assumes nothing.
-use Prim.Native.Nat.{ℕ, zero, suc, ◌+◌, ◌*◌, ◌-◌, ◌≤◌, ◌<◌}
+use Prim.Native.Nat.{ℕ, zero, suc, ◌+◌, ◌*◌, ◌<◌}
 use mathlib.Core.Path.{◌≡◌, refl, sym, ap, ◌∙◌, subst}
 use mathlib.Core.Bool.{Bool, true, false, ◌||◌}
 use mathlib.Core.List.{List, [], ◌∷◌, ◌++◌}
@@ -10,7 +10,7 @@ use lib.ListN.{get_or}
 use Rattle.cases.specs.Cases.{pick, any, tabulate}
 use Rattle.cases.proofs.Lists.{any_tabulate}
 use Rattle.cases.proofs.Bools.{or_left, or_right}
-use Rattle.protection.specs.Command.{Condition, Operation, in_conditions, in_operation, in_operations, named}
+use Rattle.protection.specs.Command.{Operation, in_conditions, in_operation, in_operations, named}
 use Rattle.commands.specs.Contents.{condition_of, operation_at, operations_of, operations_from, model_of, step_of, meaning}
 use Rattle.commands.specs.declared.Command.{Command}
 use Rattle.commands.specs.declared.Operation.{Operation as CodeOperation}

@@ -1,7 +1,7 @@
 -- What the reader of a step answers: it is `step_read`; what it does not refuse is an operation within the limits. Assumes nothing.
-use Prim.Native.Nat.{ℕ, zero, suc, ◌+◌, ◌*◌, ◌-◌, ◌≤◌, ◌<◌}
+use Prim.Native.Nat.{ℕ, zero, suc, ◌+◌, ◌-◌, ◌≤◌, ◌<◌}
 use mathlib.Core.Path.{◌≡◌, refl, sym, ap, ap₂, ◌∙◌, subst}
-use mathlib.Core.Bool.{Bool, true, false, ◌&&◌, ◌||◌, or-false}
+use mathlib.Core.Bool.{Bool, true, false, ◌&&◌}
 use mathlib.Core.List.{List, [], ◌∷◌, ◌++◌}
 use Rattle.std.specs.Prelude.{Option, Some, None, is_some}
 use mathlib.Core.Logic.{◌⊎◌, inl, inr}
@@ -12,7 +12,7 @@ use borrow.Author.Tests.{eq-eqb, ne_eqb, lt-ltb}
 use lib.Dec.{T, eqb, ltb, ltb→lt}
 use lib.ListN.{length, length-append}
 use Rattle.cases.specs.Cases.{pick}
-use Rattle.cases.proofs.Bools.{both, and_left, and_right, and_intro, is_true, or_left, holds as test-holds}
+use Rattle.cases.proofs.Bools.{both, and_intro, or_left, holds as test-holds}
 use Rattle.protection.specs.Limits.{rights}
 use Rattle.protection.specs.Command.{Operation as ModelOperation, enter, delete, create_subject, create_object, destroy_subject, destroy_object, in_operation, in_operations}
 use Rattle.protection.specs.Judge.{first_operation, operation_in}
@@ -20,8 +20,8 @@ use Rattle.protection.proofs.Calls.{OperationBelow}
 use Rattle.commands.specs.Steps.{StepRead, Enter, Delete, CreateSubject, CreateObject, DestroySubject, DestroyObject, Refused, on_cell, on_name, step_read, is_read}
 use Rattle.layout.specs.File.{byte}
 use Rattle.commands.specs.Refusals.{operation_fits}
-use Rattle.commands.specs.Contents.{step_in, operation_at, operations_of, operations_from, model_of, step_of, step_told, meaning}
-use Rattle.commands.specs.Fits.{Reads, Fits}
+use Rattle.commands.specs.Contents.{operation_at, operations_of, operations_from, model_of, step_of, step_told, meaning}
+use Rattle.commands.specs.Fits.{Fits}
 use Rattle.commands.specs.declared.Command.{Command}
 use Rattle.commands.specs.declared.Operation.{Operation}
 use Rattle.commands.specs.declared.Operation.TheVariants as op

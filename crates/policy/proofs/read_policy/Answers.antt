@@ -35,7 +35,7 @@ read_commands-requires c = (refl, commands_inside _ c.in_ok-check_header.ensures
 
 pub returns-in_err-command-clause-refused : goal.returns-in_err-command-clause-refused
 unfolding refusal
-returns-in_err-command-clause-refused c = code_handed _ _ _ c.from_residual-in_err-command.ensures.1 (search (or_stop, or_next, number_above, c.in_ok-check_header.ensures, c.in_ok-check_pairs.ensures, c.in_ok-check_sizes.ensures, matrix_refuses, c.matrix_of-matrix.ensures, c.in_ok-check.ensures, carries_refuse, c.carries_of-carries.ensures, c.in_ok-check-2.ensures, c.in_err-command.ensures.refused) depth 12)
+returns-in_err-command-clause-refused c = code_handed _ _ _ c.from_residual-in_err-command.ensures.1 (search (or_next, c.in_ok-check_header.ensures, c.in_ok-check_pairs.ensures, c.in_ok-check_sizes.ensures, matrix_refuses, c.matrix_of-matrix.ensures, c.in_ok-check.ensures, carries_refuse, c.carries_of-carries.ensures, c.in_ok-check-2.ensures, c.in_err-command.ensures.refused) depth 12)
 
 pub returns-clause-refused : goal.returns-clause-refused
 unfolding refusal
