@@ -3,7 +3,7 @@
 
 ghost use Rattle.std.specs.Prelude.{◌≡◌, [], ◌∷◌, ◌++◌, ◌+◌, ◌*◌, ◌≤◌, ◌<◌, length, take};
 ghost use Rattle.refusals.specs.Numbers.{number_of};
-ghost use Rattle.listing.specs.Listing.{refused_word, unsafe_word, decimal, spaced, head, line, lines, printed, buffer_bytes, listing};
+ghost use Rattle.listing.specs.Listing.{refused_word, unsafe_word, decimal, spaced, head, parameters_of, line, lines, printed, buffer_bytes, listing};
 ghost use Rattle.listing.specs.Writing.{Put, PutWithin, number_bytes, actual_bytes, line_bytes, shown_actual, Room, listing_bytes, Answered};
 ghost use Rattle.trace.specs.Traces.{step_call, calls};
 ghost use Rattle.safety.specs.Demand3.{steps_written, judgement_told};
@@ -120,18 +120,21 @@ fn put_step(out: &mut [u8], at: usize, k: u8, steps: &[u8], i: usize) -> usize
     )
 }
 
-// The lines of the first n steps; a number that no command has stands for no parameters.
+// How many parameters command i has; a number that no command has stands for none.
+fn parameters_of(p: &Policy, i: usize) -> u8
+    ensures { result ≡ parameters_of p.now i }
+{
+    p.command.get(i).map_or(0, |c| c.parameters)
+}
+
+// The lines of the first n steps.
 fn put_lines(out: &mut [u8], from: usize, p: &Policy, steps: &[u8], n: usize) -> usize
     requires { (from + line_bytes * n ≤ length out.old) × (5 * n ≤ length steps.now) }
     ensures { Put out.old from (lines p.now (calls steps.now n)) result out.new }
 {
     let mut at = from;
     for i in 0..n {
-        let command = steps[5 * i] as usize;
-        let mut k = 0;
-        if command < Policy::COMMANDS {
-            k = p.command[command].parameters;
-        }
+        let k = parameters_of(p, steps[5 * i] as usize);
         at = put_step(out, at, k, steps, i);
     }
     at
