@@ -21,8 +21,7 @@ use Rattle.protection.specs.Limits.{names}
 use Rattle.protection.specs.State.{is_object, State, object_in}
 use Rattle.matrix.specs.Bytes.{kind_of, view}
 use Rattle.parts.specs.Parts.{listed_in, left_out, can_leave, trusted_refusal}
-use Rattle.parts.specs.Dropped.{mask_of, trusted_read}
-use Rattle.parts.specs.declared.Trusted.{Trusted}
+use Rattle.parts.specs.Dropped.{mask_of}
 
 -- ---- the mask
 pub mask_listed : (l : List ℕ) (n x : ℕ) → has (mask_of l n) x ≡ listed_in l n x
@@ -68,19 +67,14 @@ module _ (m : State) (l : List ℕ) where
   unfolding mask_of
   reading_start = record { within = omega arith; mask_is = refl; rest = ap (λ (n : ℕ). all taken_at n 0) (sub-zero (length l)) }
 
-  refused_is : false ≡ whole → ◌≡◌ {A = Trusted} (record { refused = 42; mask = 0 }) (trusted_read m l)
-  unfolding trusted_refusal
-  refused_is e = rw (← e)
-
-  read_is : true ≡ whole → (z : ℕ) → z ≡ mask_of l (length l) → ◌≡◌ {A = Trusted} (record { refused = 0; mask = z }) (trusted_read m l)
-  unfolding trusted_refusal
-  read_is e z d = rw (← e, d)
-
   module _ (z i : ℕ) (K : Reading z i) where
-    pub reading_end : length l ≤ i → ◌≡◌ {A = Trusted} (record { refused = 0; mask = z }) (trusted_read m l)
-    reading_end h =
-        let e : i ≡ length l = omega (arith, K.within) in
-        read_is (all_end taken_at (length l) whole i h K.rest) z (K.mask_is ∙ ap (mask_of l) e)
+    module _ (h : length l ≤ i) where
+      pub reading_end : 0 ≡ trusted_refusal m l
+      unfolding trusted_refusal
+      reading_end = let e : true ≡ whole = all_end taken_at (length l) whole i h K.rest in rw (← e)
+
+      pub reading_mask : z ≡ mask_of l (length l)
+      reading_mask = let e : i ≡ length l = omega (arith, K.within) in K.mask_is ∙ ap (mask_of l) e
 
     module _ (h : i < length l) (x : ℕ) (x-is : x ≡ get_or l i 0) (r : Bool) (r-is : r ≡ can_leave m (has z) x) where
       this : r ≡ taken_at i
@@ -88,8 +82,9 @@ module _ (m : State) (l : List ℕ) where
           r-is ∙ ap (can_leave m (has z)) x-is
           ∙ ap (λ (b : Bool). (ltb (get_or l i 0) names && not b) && object_in m (get_or l i 0)) (ap (λ (y : ℕ). has y (get_or l i 0)) K.mask_is ∙ mask_listed l i (get_or l i 0))
 
-      pub reading_refused : not r ≡ true → ◌≡◌ {A = Trusted} (record { refused = 42; mask = 0 }) (trusted_read m l)
-      reading_refused t = refused_is (all_stop taken_at (length l) whole i r this t h K.rest)
+      pub reading_refused : not r ≡ true → 42 ≡ trusted_refusal m l
+      unfolding trusted_refusal
+      reading_refused t = let e : false ≡ whole = all_stop taken_at (length l) whole i r this t h K.rest in rw (← e)
 
       pub reading_small : not r ≡ false → x < 32
       reading_small t = go r refl t
@@ -116,9 +111,6 @@ module _ (m : State) (l : List ℕ) (e : trusted_refusal m l ≡ 0) where
       go true q = refl
       go false q = absurd (omega (arith, q))
 
-  pub mask_read : (x : Trusted) → x ≡ trusted_read m l → x.mask ≡ mask_of l (length l)
-  mask_read x d = ap (λ (y : Trusted). y.mask) d ∙ rw (eq-eqb (trusted_refusal m l) 0 e)
-
   entry_there : (i : ℕ) → i < length l → T (object_in m (get_or l i 0))
   entry_there i h = and_right (ltb (get_or l i 0) names && not (listed_in l i (get_or l i 0))) (object_in m (get_or l i 0)) (test-holds (taken_at m l i) (all_at (taken_at m l) (length l) 0 all_taken i (omega arith) (omega arith)))
 
@@ -134,12 +126,3 @@ module _ (m : State) (l : List ℕ) (e : trusted_refusal m l ≡ 0) where
   -- the names that are dropped exist
   pub left_there : (x : ℕ) → T (left_out l x) → T (object_in m x)
   left_there x t = listed_there (length l) (omega arith) x t
-
--- what the struct says of refusals
-pub read_refused : (m : State) (l : List ℕ) (x : Trusted) → x ≡ trusted_read m l → x.refused ≡ trusted_refusal m l
-unfolding trusted_refusal
-read_refused m l x d = ap (λ (y : Trusted). y.refused) d ∙ go (whole m l)
-  where
-    go : (b : Bool) → (pick {A = Trusted} (eqb (pick b 0 42) 0) (record { refused = 0; mask = mask_of l (length l) }) (record { refused = 42; mask = 0 })).refused ≡ pick b 0 42
-    go true = refl
-    go false = refl
