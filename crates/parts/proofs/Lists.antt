@@ -36,20 +36,6 @@ mask_listed l (suc n) x = go (mask_listed l n x) (ℕ_discrete (get_or l n 0) x)
 pub with_is : (z x r : ℕ) → x < names → r ≡ bit_or z ((1 * 2 ^ x) % 2 ^ 32) → r ≡ insert z x
 with_is z x r l e = e ∙ ap (bit_or z) (one_shl 32 x l)
 
--- ---- one name
-module _ (ks : List ℕ) (z x : ℕ) where
-  abbrev leaves : Bool
-  leaves = can_leave (view ks []) (has z) x
-
-  pub leave_above : 32 ≤ x → false ≡ leaves
-  leave_above l = rw (le-ltb x 32 l)
-
-  pub leave_listed : x < 32 → z / 2 ^ x % 2 ≡ 1 → false ≡ leaves
-  leave_listed l e = rw (lt-ltb x 32 l, eq-eqb (z / 2 ^ x % 2) 1 e)
-
-  pub leave_there : x < 32 → (z / 2 ^ x % 2 ≡ 1 → ⊥) → (r : Bool) → r ≡ is_object (kind_of (get_or ks x 0)) → r ≡ leaves
-  leave_there l f r d = d ∙ rw (lt-ltb x 32 l, ne_eqb (z / 2 ^ x % 2) 1 f)
-
 -- ---- the loop
 module _ (m : State) (l : List ℕ) where
   abbrev taken_at : ℕ → Bool
@@ -68,13 +54,9 @@ module _ (m : State) (l : List ℕ) where
   reading_start = record { within = omega arith; mask_is = refl; rest = ap (λ (n : ℕ). all taken_at n 0) (sub-zero (length l)) }
 
   module _ (z i : ℕ) (K : Reading z i) where
-    module _ (h : length l ≤ i) where
-      pub reading_end : 0 ≡ trusted_refusal m l
-      unfolding trusted_refusal
-      reading_end = let e : true ≡ whole = all_end taken_at (length l) whole i h K.rest in rw (← e)
-
-      pub reading_mask : z ≡ mask_of l (length l)
-      reading_mask = let e : i ≡ length l = omega (arith, K.within) in K.mask_is ∙ ap (mask_of l) e
+    pub reading_end : length l ≤ i → 0 ≡ trusted_refusal m l
+    unfolding trusted_refusal
+    reading_end h = let e : true ≡ whole = all_end taken_at (length l) whole i h K.rest in rw (← e)
 
     module _ (h : i < length l) (x : ℕ) (x-is : x ≡ get_or l i 0) (r : Bool) (r-is : r ≡ can_leave m (has z) x) where
       this : r ≡ taken_at i
@@ -82,23 +64,16 @@ module _ (m : State) (l : List ℕ) where
           r-is ∙ ap (can_leave m (has z)) x-is
           ∙ ap (λ (b : Bool). (ltb (get_or l i 0) names && not b) && object_in m (get_or l i 0)) (ap (λ (y : ℕ). has y (get_or l i 0)) K.mask_is ∙ mask_listed l i (get_or l i 0))
 
-      pub reading_refused : not r ≡ true → 42 ≡ trusted_refusal m l
+      pub reading_refused : r ≡ false → 42 ≡ trusted_refusal m l
       unfolding trusted_refusal
-      reading_refused t = let e : false ≡ whole = all_stop taken_at (length l) whole i r this t h K.rest in rw (← e)
+      reading_refused t = let e : false ≡ whole = all_stop taken_at (length l) whole i r this (ap not t) h K.rest in rw (← e)
 
-      pub reading_small : not r ≡ false → x < 32
-      reading_small t = go r refl t
-        where
-          go : (u : Bool) → r ≡ u → not u ≡ false → x < 32
-          go true e q = ltb→lt x 32 (and_left (ltb x 32) (not (has z x)) (and_left (ltb x 32 && not (has z x)) (object_in m x) (test-holds (can_leave m (has z) x) (sym r-is ∙ e))))
-          go false e q = absurd (let w : ◌≡◌ {A = ℕ} 0 1 = cc in omega arith)
-
-      pub reading_next : not r ≡ false → (z' : ℕ) → z' ≡ insert z x → Reading z' (i + 1)
+      pub reading_next : r ≡ true → (z' : ℕ) → z' ≡ insert z x → Reading z' (i + 1)
       unfolding mask_of
       reading_next t z' e = record {
         within = omega arith;
         mask_is = e ∙ ap (λ (y : ℕ). insert y x) K.mask_is ∙ ap (insert (mask_of l i)) x-is ∙ ap (mask_of l) (sym (add-one i));
-        rest = all_more taken_at (length l) whole i r this t h K.rest;
+        rest = all_more taken_at (length l) whole i r this (ap not t) h K.rest;
       }
 
 -- ---- a list that is not refused

@@ -1,6 +1,6 @@
 use mathlib.Core.Path.{refl}
 use native.Mathlib.Omega.{arith}
-use Rattle.parts.proofs.Lists.{reading_start, reading_refused, reading_next, reading_end, reading_mask}
+use Rattle.parts.proofs.Lists.{reading_start, reading_refused, reading_next, reading_end}
 use Rattle.parts.proofs.read_trusted.Goals as goal
 
 pub loop-x-init : goal.loop-x-init
