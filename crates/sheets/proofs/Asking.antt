@@ -1,20 +1,18 @@
 -- One entry, judged on its part of the buffer. Assumes nothing.
-use Prim.Native.Nat.{ℕ, ◌+◌, ◌-◌, ◌/◌, ◌^◌, ◌≤◌, ◌<◌}
-use mathlib.Core.Path.{◌≡◌, sym, ap, ap₂, ◌∙◌, subst}
-use Rattle.std.specs.Prelude.{Result, Ok, Err}
+use Prim.Native.Nat.{ℕ, ◌+◌, ◌-◌, ◌^◌, ◌≤◌, ◌<◌}
+use mathlib.Core.Path.{◌≡◌, ap, ap₂, ◌∙◌}
+use Rattle.std.specs.Prelude.{Result}
 use mathlib.Core.List.{List, ◌++◌}
 use native.Mathlib.Decide.{ℕ_discrete}
-use native.Mathlib.Nat.{div-zero}
 use native.Mathlib.Omega.{arith}
 use lib.ListN.{length, take, drop, length-drop}
 use lib.Seq.{length-take-le}
 use Rattle.protection.specs.Limits.{rights}
-use Rattle.refusals.specs.Numbers.{number_of}
 use Rattle.refusals.specs.declared.Refusal.{Refusal}
 use Rattle.policy.specs.Contents.{policy_of, file_state, file_system}
 use Rattle.policy.proofs.Accepted.{accepted}
 use Rattle.questions.proofs.Refusals.{sized}
-use Rattle.safety.specs.Demand3.{Judgement, verdict_told, judgement_told, steps_written}
+use Rattle.safety.specs.Demand3.{Judgement, judgement_told, steps_written}
 use Rattle.safety.specs.Judgement.{judge_refusal, file_judgement, file_buffer, Judged}
 use Rattle.safety.specs.Conclusion.{PreparedOf}
 use Rattle.safety.specs.declared.Prepared.{Prepared}
@@ -23,22 +21,6 @@ use Rattle.safety.proofs.Consequences.{few_written}
 use Rattle.safety.proofs.Refusals.{none_refused, passed, refuses}
 use Rattle.sheets.specs.declared.Entry.{Entry}
 use Rattle.sheets.specs.Sheets.{entry_of, answered, part_filled}
-
--- ---- an answer as an entry
-module _ (r : ℕ) (x : Result Verdict Refusal) where
-  pub entry_refused : (d : Refusal) → x ≡ Err d → (n : ℕ) → n ≡ number_of d → ◌≡◌ {A = Entry} (record { right = r; verdict = n; count = 0 }) (entry_of r (judgement_told x))
-  entry_refused d e n q = rw (e, q)
-
-  pub entry_told : (v : Verdict) → x ≡ Ok v → (q : Entry) → q ≡ entry_of r (verdict_told v) → q ≡ entry_of r (judgement_told x)
-  entry_told v e q is = rw e is
-
--- ---- its count
-pub count_told : (x : Result Verdict Refusal) (v : Verdict) → x ≡ Ok v → steps_written (judgement_told x) < 2 ^ 16 → steps_written (verdict_told v) < 2 ^ 16
-count_told x v e h = rw e at h
-
--- ---- no parts, no bytes
-pub no_parts : (b n : ℕ) → n ≡ 0 → 0 ≡ b / n
-no_parts b n e = sym (ap (λ (k : ℕ). b / k) e ∙ div-zero b)
 
 -- ---- the count of steps fits two bytes
 few_rights : (f : List ℕ) (r n : ℕ) → judge_refusal f r n ≡ 0 → (file_system f).rights ≤ rights
@@ -56,17 +38,17 @@ count_fits f r b j b' J = go (ℕ_discrete (judge_refusal f r (length b)) 0)
     go (no n) = let e : steps_written j ≡ 0 = ap steps_written (J.answer_is ∙ refuses f r (length b) n) in omega arith
 
 -- ---- the entry and the buffer after it, where the part is the k bytes from number o on
-module _ (file : Result Prepared Refusal) (r o k : ℕ) (b : List ℕ) (j : Judgement) (p : List ℕ) (told : (f : List ℕ) → PreparedOf f file → Judged f r (take (o + k - o) (drop o b)) j p) (inside : o + k ≤ length b) where
+module _ (file : Result Prepared Refusal) (r o k : ℕ) (b : List ℕ) (x : Result Verdict Refusal) (p : List ℕ) (told : (f : List ℕ) → PreparedOf f file → Judged f r (take (o + k - o) (drop o b)) (judgement_told x) p) (inside : o + k ≤ length b) where
   width : o + k - o ≡ k
   width = omega arith
 
   long : length (take (o + k - o) (drop o b)) ≡ k
   long = length-take-le (o + k - o) (drop o b) (let z = length-drop o b in omega arith) ∙ width
 
-  pub asked_count : (f : List ℕ) → PreparedOf f file → steps_written j < 2 ^ 16
-  asked_count f d = count_fits f r (take (o + k - o) (drop o b)) j p (told f d)
+  pub asked_count : (f : List ℕ) → PreparedOf f file → steps_written (judgement_told x) < 2 ^ 16
+  asked_count f d = count_fits f r (take (o + k - o) (drop o b)) (judgement_told x) p (told f d)
 
-  pub asked : (q : Entry) → q ≡ entry_of r j → (f : List ℕ) → PreparedOf f file → (q ≡ answered f k r) × (take o b ++ (p ++ drop (o + k - o) (drop o b)) ≡ part_filled f r o k b)
+  pub asked : (q : Entry) → q ≡ entry_of r (judgement_told x) → (f : List ℕ) → PreparedOf f file → (q ≡ answered f k r) × (take o b ++ (p ++ drop (o + k - o) (drop o b)) ≡ part_filled f r o k b)
   asked q is f d = (
     is ∙ ap (entry_of r) ((told f d).answer_is ∙ ap (file_judgement f r) long),
     ap₂ (λ (l m : List ℕ). take o b ++ (l ++ m)) ((told f d).buffer_is ∙ ap (λ (i : ℕ). file_buffer f r (take i (drop o b))) width) (ap (λ (i : ℕ). drop i (drop o b)) width),

@@ -55,10 +55,7 @@ fn entry_of(right: u8, judgement: Result<Verdict, Refusal>) -> Entry
 fn part_length(bytes: usize, n: usize) -> usize
     ensures { result ≡ bytes / n }
 {
-    if n == 0 {
-        return 0;
-    }
-    bytes / n
+    bytes.checked_div(n).unwrap_or(0)
 }
 
 // Entry i, judged on part i of the buffer, each part of so many bytes.
