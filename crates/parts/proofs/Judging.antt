@@ -1,8 +1,8 @@
 -- The judge of a part on a file: where nothing is refused its answer is the truth about all runs from the part, and an unsafe part is an unsafe whole; and so
 -- answer and buffer are all that is to be shown of the code. Assumes nothing.
 use Prim.Native.Nat.{ℕ, ◌*◌, ◌-◌, ◌≤◌, ◌<◌}
-use mathlib.Core.Path.{◌≡◌, refl, sym, ap, ap₂, ◌∙◌, subst, fun_ext}
-use mathlib.Core.Bool.{Bool, true, false}
+use mathlib.Core.Path.{◌≡◌, sym, ap, ap₂, ◌∙◌, subst, fun_ext}
+use mathlib.Core.Bool.{Bool, false}
 use mathlib.Core.List.{List, []}
 use native.Mathlib.Omega.{arith}
 use native.Mathlib.Nat.{le_trans}
@@ -15,11 +15,10 @@ use Rattle.cases.specs.Cases.{pick}
 use Rattle.rights.specs.Rights.{has}
 use Rattle.protection.specs.Limits.{names, start_names}
 use Rattle.protection.specs.State.{State, object_in}
-use Rattle.protection.specs.Command.{Call}
-use Rattle.protection.specs.Size.{names_of, taken_names, step_bound}
+use Rattle.protection.specs.Size.{taken_names, step_bound}
 use Rattle.protection.specs.Execution.{unbounded}
 use Rattle.protection.specs.Leak.{LeaksLast}
-use Rattle.protection.specs.Judge.{none_reserved, leak_beside, Verdict, judge_beside, Settled}
+use Rattle.protection.specs.Judge.{none_reserved, leak_beside, Verdict, judge_beside}
 use Rattle.protection.specs.Part.{without}
 use Rattle.protection.proofs.Saturation.{Taken, rounds_settled}
 use Rattle.protection.proofs.Trusted.{part_bound, part_names, part_taken, part_leaks_bounded, part_leaks, part_unsafe}
@@ -41,19 +40,19 @@ use Rattle.questions.proofs.Starting.{policy_told}
 use Rattle.policy.specs.declared.Policy.{Policy}
 use Rattle.policy.proofs.ReadPolicy.{policy_fits_read}
 use Rattle.goals.specs.Goals.{leak_goal}
-use Rattle.visits.specs.Engine.{bound_of, Asked}
+use Rattle.visits.specs.Engine.{Asked}
 use Rattle.questions.proofs.Refusals.{Sized, sized, goal_asked}
 use Rattle.trace.specs.Traces.{calls}
 use Rattle.trace.specs.Replays.{file_replay}
 use Rattle.trace.specs.Replays.{Leak}
 use Rattle.safety.specs.declared.Verdict.{Verdict as CodeVerdict}
 use Rattle.safety.specs.Demand3.{judgement_told, is_unsafe, steps_written, Demand3}
-use Rattle.safety.specs.Judgement.{caller_refusal, judge_refusal, file_verdict, judgement_of, judgement_by, file_judgement, filled, buffer_by, file_buffer, Judged}
+use Rattle.safety.specs.Judgement.{caller_refusal, judge_refusal, file_verdict, judgement_of, judgement_by, file_judgement, filled, buffer_by, file_buffer}
 use Rattle.safety.specs.Conclusion.{Concluded}
 use Rattle.safety.specs.Demand3.{Judgement}
-use Rattle.safety.specs.Demand3.{Refused, Safe, Unsafe}
+use Rattle.safety.specs.Demand3.{Refused, Unsafe}
 use Rattle.safety.proofs.Buffers.{calls_back}
-use Rattle.safety.proofs.Refusals.{passed, answers, turned_down, writes, untouched, judges, leak_fits}
+use Rattle.safety.proofs.Refusals.{passed, answers, turned_down, writes, judges, leak_fits}
 use Rattle.safety.proofs.Demand3.{told, verdict_demand3, not_refused, file_taken, verdict_replays, judged, told_on}
 use Rattle.parts.specs.Parts.{listed_in, left_out, trusted_refusal, part_refusal, file_part, part_verdict, part_judgement, part_buffer, PartJudged}
 use Rattle.parts.specs.Dropped.{mask_of, dropped, part_of}

@@ -1,25 +1,24 @@
 -- The list of names as a mask, and what is refused of it. Assumes nothing.
-use Prim.Native.Nat.{ℕ, zero, suc, ◌+◌, ◌*◌, ◌-◌, ◌/◌, ◌%◌, ◌^◌, ◌≤◌, ◌<◌}
+use Prim.Native.Nat.{ℕ, zero, suc, ◌+◌, ◌*◌, ◌-◌, ◌%◌, ◌^◌, ◌≤◌, ◌<◌}
 use mathlib.Core.Path.{◌≡◌, refl, sym, ap, ◌∙◌, subst}
 use mathlib.Core.Bool.{Bool, true, false, not, ◌&&◌, ◌||◌}
-use mathlib.Core.List.{List, []}
+use mathlib.Core.List.{List}
 use native.Mathlib.Omega.{arith}
 use native.Mathlib.Nat.{sub-zero}
 use native.Mathlib.Numerals.{add-one}
 use native.Mathlib.Decide.{ℕ_discrete}
-use borrow.Author.Tests.{eq-eqb, ne_eqb, lt-ltb, le-ltb}
+use borrow.Author.Tests.{eq-eqb, ne_eqb}
 use lib.Bits.{bit_or}
-use lib.Dec.{T, eqb, ltb, eqb→eq, ltb→lt}
+use lib.Dec.{T, eqb, ltb, eqb→eq}
 use lib.ListN.{length, get_or}
 use Rattle.cases.specs.Cases.{pick, all}
-use Rattle.cases.proofs.Bools.{and_left, and_right, holds as test-holds}
+use Rattle.cases.proofs.Bools.{and_right, holds as test-holds}
 use Rattle.cases.proofs.Loops.{all_stop, all_more, all_end, all_at}
 use Rattle.rights.specs.Rights.{has, insert}
 use Rattle.rights.proofs.Sets.{has_none, has_insert_same, has_insert_other}
 use Rattle.rights.proofs.Bits.{one_shl}
 use Rattle.protection.specs.Limits.{names}
-use Rattle.protection.specs.State.{is_object, State, object_in}
-use Rattle.matrix.specs.Bytes.{kind_of, view}
+use Rattle.protection.specs.State.{State, object_in}
 use Rattle.parts.specs.Parts.{listed_in, left_out, can_leave, trusted_refusal}
 use Rattle.parts.specs.Dropped.{mask_of}
 

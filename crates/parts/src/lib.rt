@@ -90,7 +90,12 @@ fn judge_without(p: &Policy, mask: u32, right: u8, buffer: &mut [u8]) -> Verdict
 }
 
 // Can the right ever come into a cell that lacks it, if the names on the list do nothing? The steps go to the front of the buffer.
-pub fn judge_part(file: &[u8], right: u8, list: &[u8], buffer: &mut [u8]) -> Result<Verdict, Refusal>
+pub fn judge_part(
+    file: &[u8],
+    right: u8,
+    list: &[u8],
+    buffer: &mut [u8],
+) -> Result<Verdict, Refusal>
     ensures { PartJudged file.now right list.now buffer.old (judgement_told result) buffer.new }
 {
     let p = policy::read_policy(file)?;
