@@ -4,9 +4,6 @@ use Rattle.listing.proofs.answer_file.Goals as goal
 pub returns-in-Err : goal.returns-in-Err
 returns-in-Err c = refused_put _ _ _ c.in-Err.ensures.refused _ _ _ c.put_refused.ensures
 
-pub judge_read-judgement-requires : goal.judge_read-judgement-requires
-judge_read-judgement-requires c = (_, record { refused = c.in-Ok.ensures.refused; read = c.in-Ok.ensures.read })
-
 pub print-requires : goal.print-requires
 print-requires c = judged_room c.args.file.now _ _ _ _ _ (record { refused = c.in-Ok.ensures.refused; read = c.in-Ok.ensures.read }) c.judge_read-judgement.ensures c.step_buffer-steps.ensures _ c.requires
 

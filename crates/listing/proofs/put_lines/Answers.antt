@@ -6,9 +6,6 @@ use Rattle.listing.proofs.put_lines.Goals as goal
 pub loop-i-init : goal.loop-i-init
 loop-i-init c = (omega arith, omega arith, refl, search lines_start)
 
-pub put_step-at-requires : goal.put_step-at-requires
-put_step-at-requires c = (omega arith, omega arith)
-
 pub loop-i-preserved : goal.loop-i-preserved
 loop-i-preserved c = (omega arith, omega arith, omega arith, search lines_next)
 
