@@ -18,7 +18,6 @@ use Rattle.protection.specs.Command.{System, named, values_of}
 use Rattle.protection.specs.Carrying.{meets}
 use Rattle.protection.specs.Execution.{bounded, holds, hold_all, actual_fits}
 use Rattle.matrix.specs.Bytes.{inside, rights_in, view}
-use Rattle.carries.specs.Meeting.{MetBy}
 use Rattle.commands.specs.Contents.{condition_of, meaning}
 use Rattle.commands.specs.declared.Command.{Command}
 use Rattle.execution.specs.Conditions.{HeldBy, AllHeldBy}
