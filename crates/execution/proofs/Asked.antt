@@ -61,12 +61,11 @@ module _ (ks cs carriers a : List ℕ) (c : Command) (j x y : ℕ) (ex : x ≡ g
 each_held : (S : System) (m : State) (f : ℕ → ℕ) (c : Command) (n j : ℕ) → all (λ (i : ℕ). holds S m f (condition_of c i)) n j ≡ hold_all S m f (tabulate (condition_of c) n j)
 unfolding all
 each_held S m f c zero j = refl
-each_held S m f c (suc n) j = go (holds S m f (condition_of c j)) (each_held S m f c n (suc j))
+each_held S m f c (suc n) j = both (holds S m f (condition_of c j)) _ ∙ ap (λ (b : Bool). holds S m f (condition_of c j) && b) (each_held S m f c n (suc j))
   where
-    go : (b : Bool) → all (λ (i : ℕ). holds S m f (condition_of c i)) n (suc j) ≡ hold_all S m f (tabulate (condition_of c) n (suc j))
-        → pick b (all (λ (i : ℕ). holds S m f (condition_of c i)) n (suc j)) false ≡ b && hold_all S m f (tabulate (condition_of c) n (suc j))
-    go true e = e
-    go false e = refl
+    both : (b c : Bool) → pick b c false ≡ b && c
+    both true c = refl
+    both false c = refl
 
 module _ (ks cs carriers a : List ℕ) (c : Command) where
   -- an answer about each of them, in every system, is one about all
