@@ -1,6 +1,6 @@
 -- All cells of a goal, and what ends the rounds by a goal. Assumes nothing.
 use Prim.Native.Nat.{ℕ, zero, suc}
-use mathlib.Core.Path.{◌≡◌, refl, ◌∙◌, subst}
+use mathlib.Core.Path.{◌≡◌, refl, ap, ◌∙◌, subst}
 use mathlib.Core.Bool.{Bool, true, false, ◌&&◌}
 use mathlib.Core.List.{List}
 use lib.Dec.{eqb}
@@ -20,12 +20,11 @@ holds_one m c = m.cell c.subject c.object c.right
 pub held_all : (m : State) (l : List ℕ) (n j : ℕ) → all (λ (i : ℕ). holds_one m (needed_at l i)) n j ≡ holds_all (tabulate (needed_at l) n j) m
 unfolding all
 held_all m l zero j = refl
-held_all m l (suc n) j = go (holds_one m (needed_at l j)) (held_all m l n (suc j))
+held_all m l (suc n) j = both (holds_one m (needed_at l j)) _ ∙ ap (λ (b : Bool). holds_one m (needed_at l j) && b) (held_all m l n (suc j))
   where
-    go : (b : Bool) → all (λ (i : ℕ). holds_one m (needed_at l i)) n (suc j) ≡ holds_all (tabulate (needed_at l) n (suc j)) m
-        → pick b (all (λ (i : ℕ). holds_one m (needed_at l i)) n (suc j)) false ≡ b && holds_all (tabulate (needed_at l) n (suc j)) m
-    go true e = e
-    go false e = refl
+    both : (b c : Bool) → pick b c false ≡ b && c
+    both true c = refl
+    both false c = refl
 
 -- ---- what ends the rounds
 pub needed_fits : (G : Goal) (l : Needed) → G.end ≡ Held l → GoalFits G → NeededFits l
