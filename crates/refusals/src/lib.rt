@@ -7,30 +7,30 @@ ghost use Rattle.refusals.specs.Numbers.{number_of, code};
 #[derive(Clone, Copy, Debug, PartialEq, Eq)]
 pub enum Refusal {
     // of whoever wrote the file
-    FileLength,
-    RightCount,
-    PairCount,
-    SectionPlace,
-    SectionLength,
-    KindByte,
-    CellRights,
-    CommandCounts,
-    CommandParts,
-    CarriedRights,
+    FileLength = 1,
+    RightCount = 2,
+    PairCount = 3,
+    SectionPlace = 4,
+    SectionLength = 5,
+    KindByte = 6,
+    CellRights = 7,
+    CommandCounts = 8,
+    CommandParts = 9,
+    CarriedRights = 44,
     // of whoever runs or replays
-    NoCommand,
-    Actuals,
-    Conditions,
-    Operations,
-    TraceLength,
+    NoCommand = 11,
+    Actuals = 12,
+    Conditions = 14,
+    Operations = 15,
+    TraceLength = 31,
     // of whoever asks for a verdict
-    NoRight,
-    SeveralOperations,
-    TooManyNames,
-    ShortBuffer,
-    NeededCells,
-    TrustedNames,
-    LongSheet,
+    NoRight = 21,
+    SeveralOperations = 22,
+    TooManyNames = 23,
+    ShortBuffer = 24,
+    NeededCells = 41,
+    TrustedNames = 42,
+    LongSheet = 43,
 }
 
 impl Refusal {
@@ -38,30 +38,7 @@ impl Refusal {
     pub fn number(self) -> u8
         ensures { result ≡ number_of self }
     {
-        match self {
-            Refusal::FileLength => 1,
-            Refusal::RightCount => 2,
-            Refusal::PairCount => 3,
-            Refusal::SectionPlace => 4,
-            Refusal::SectionLength => 5,
-            Refusal::KindByte => 6,
-            Refusal::CellRights => 7,
-            Refusal::CommandCounts => 8,
-            Refusal::CommandParts => 9,
-            Refusal::NoCommand => 11,
-            Refusal::Actuals => 12,
-            Refusal::Conditions => 14,
-            Refusal::Operations => 15,
-            Refusal::NoRight => 21,
-            Refusal::SeveralOperations => 22,
-            Refusal::TooManyNames => 23,
-            Refusal::ShortBuffer => 24,
-            Refusal::TraceLength => 31,
-            Refusal::NeededCells => 41,
-            Refusal::TrustedNames => 42,
-            Refusal::LongSheet => 43,
-            Refusal::CarriedRights => 44,
-        }
+        self as u8
     }
 }
 
