@@ -1,5 +1,5 @@
 -- What follows from the promise for a part alone, whatever the answer and the buffer: at least a sentence for each field. Assumes nothing.
-use Prim.Native.Nat.{ℕ, suc, ◌*◌, ◌-◌, ◌≤◌}
+use Prim.Native.Nat.{ℕ, ◌*◌, ◌-◌}
 use mathlib.Core.Path.{◌≡◌, refl, sym, ap, ◌∙◌, subst}
 use mathlib.Core.Bool.{Bool, true, false, not}
 use mathlib.Core.List.{List, []}
@@ -8,7 +8,6 @@ use native.Mathlib.Decide.{ℕ_discrete}
 use lib.Dec.{T}
 use lib.ListN.{length, take}
 use Rattle.cases.specs.Cases.{pick}
-use Rattle.protection.specs.Size.{step_bound}
 use Rattle.protection.specs.Command.{Call}
 use Rattle.protection.specs.Execution.{unbounded}
 use Rattle.protection.specs.Leak.{leaks, any_refused, init}
