@@ -1,5 +1,5 @@
 -- A step that is looked for: the loop over the commands, on the matrix as it is and on the matrix without the right. Assumes nothing.
-use Prim.Native.Nat.{ℕ, zero, suc, ◌+◌, ◌-◌, ◌*◌, ◌≤◌, ◌<◌}
+use Prim.Native.Nat.{ℕ, zero, suc, ◌+◌, ◌-◌, ◌≤◌, ◌<◌}
 use mathlib.Core.Path.{◌≡◌, refl, sym, ap, ap₂, ◌∙◌, subst}
 use mathlib.Core.Bool.{Bool, true, false}
 use mathlib.Core.List.{List}
@@ -13,16 +13,15 @@ use borrow.Author.Tests.{lt-ltb, le-ltb}
 use lib.Dec.{ltb}
 use lib.ListN.{get_or, get_elem?}
 use Rattle.cases.specs.Cases.{pick, tabulate}
-use Rattle.rights.specs.Rights.{has, delete}
+use Rattle.rights.specs.Rights.{has}
 use Rattle.rights.proofs.Sets.{has_none}
 use Rattle.protection.specs.Limits.{names, rights}
 use Rattle.protection.specs.State.{State}
-use Rattle.protection.specs.Command.{Command as ModelCommand, System, Call, actuals}
+use Rattle.protection.specs.Command.{Command as ModelCommand, System, Call}
 use Rattle.protection.specs.Judge.{first_in, names_at, choices, operation_in, places_of, four_of, call_at, allowed, first_call}
 use Rattle.matrix.specs.Matrices.{state_of, deleted}
 use Rattle.matrix.specs.declared.Matrix.{Matrix}
 use Rattle.masks.specs.First.{first}
-use Rattle.masks.specs.Told.{replaced}
 use Rattle.masks.specs.declared.Tables.{Tables}
 use Rattle.masks.proofs.First.{Least, least}
 use Rattle.commands.specs.Contents.{missing, meaning}
@@ -36,10 +35,9 @@ use Rattle.policy.specs.declared.Policy.{Policy}
 use Rattle.visits.specs.Engine.{command_number, SingleSteps}
 use Rattle.visits.proofs.Asked.{policy_carried, command_found}
 use Rattle.visits.proofs.Visits.{allowed_is}
-use Rattle.calls.specs.Calls.{call_of, found_call, Covers, touching, gone_from, masks_without, first_touching, place_touching, touching_in, TouchingFound, Lookable}
+use Rattle.calls.specs.Calls.{found_call, Covers, touching, gone_from, masks_without, first_touching, place_touching, touching_in, TouchingFound, Lookable}
 use Rattle.calls.specs.declared.Call.{Call as CodeCall}
 use Rattle.commands.specs.Fits.{Fits}
-use Rattle.commands.specs.declared.Operation.TheVariants as code
 use Rattle.commands.proofs.Reading.{fits_wider}
 use Rattle.policy.specs.Fits.{PolicyFits}
 

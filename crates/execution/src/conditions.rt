@@ -32,12 +32,7 @@ pub fn actuals_fit(c: Command, a: [u8; Command::PARAMETERS]) -> bool
     requires { Fits rights c }
     ensures { result ≡ all (actual_fits bounded (meaning c) (values_of a)) parameters 0 }
 {
-    for b in 0..Command::PARAMETERS as u8 {
-        if !actual_fits(c, a, b) {
-            return false;
-        }
-    }
-    true
+    (0..Command::PARAMETERS as u8).all(|b| actual_fits(c, a, b))
 }
 
 // Condition j, read over what the cell's rights carry: the sets have those that carry each right.
@@ -66,10 +61,5 @@ pub fn conditions_hold(
     requires { ConditionsApply a c }
     ensures { AllHeldBy matrix.now.kinds matrix.now.cells carriers.now a c result }
 {
-    for j in 0..c.conditions as usize {
-        if !condition_holds(matrix, carriers, c, j, a) {
-            return false;
-        }
-    }
-    true
+    (0..c.conditions as usize).all(|j| condition_holds(matrix, carriers, c, j, a))
 }

@@ -1,4 +1,4 @@
-// The C boundary: numbers and byte slices, no `requires`. A slice is passed as a pointer and a length.
+// The C boundary: numbers and byte slices, no `requires`. A slice is passed as a pointer and a length, and C has no `Result`: a refusal is its number here.
 #![tactic(auto)]
 
 ghost use Rattle.std.specs.Prelude.{◌≡◌, [], ◌∷◌, ◌++◌, ◌+◌, ◌*◌, ◌≤◌, ◌<◌, length, take, drop};

@@ -77,12 +77,7 @@ fn all_held(needed: Needed, matrix: &Matrix) -> bool
     requires { NeededFits needed }
     ensures { result ≡ holds_all (needed_in needed) (view matrix.now.kinds matrix.now.cells) }
 {
-    for j in 0..needed.count {
-        if !cell_held(&needed.cells, j, matrix) {
-            return false;
-        }
-    }
-    true
+    (0..needed.count).all(|j| cell_held(&needed.cells, j, matrix))
 }
 
 // The rounds are ended before their first step: the start holds all that is needed.

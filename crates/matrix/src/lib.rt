@@ -11,7 +11,8 @@ use rights::Set;
 
 pub mod cells;
 
-// Document 01: "the kinds with all cells, held as one thing". Cell (s, o) stands at 32 × s + o.
+// Document 01: "the kinds with all cells, held as one thing". Cell (s, o) stands at 32 × s + o. A kind is the file's byte and no enum: `view` reads any byte, 6 refuses
+// some, and a rule run writes them back as they are.
 #[derive(Clone, Copy)]
 pub struct Matrix {
     pub kinds: [u8; Matrix::NAMES],
@@ -56,7 +57,7 @@ impl Matrix {
         self.cells[at] = rights::with_right(self.cells[at], q);
     }
 
-    // Right q is taken out of the cell (s, o).
+    // Right q is taken out of the cell (s, o). A parameter that tells the two apart would be no plainer than three lines.
     pub fn delete(&mut self, q: u8, s: usize, o: usize)
         requires { (q < rights) × (s < names) × (o < names) }
         ensures { self.new ≡ deleted self.old q s o }

@@ -1,22 +1,22 @@
 -- The list of cells: what the code tests of it, one after the other, and what holds where 41 is not given. Assumes nothing.
-use Prim.Native.Nat.{ℕ, zero, suc, ◌+◌, ◌*◌, ◌-◌, ◌/◌, ◌%◌, ◌≤◌, ◌<◌}
+use Prim.Native.Nat.{ℕ, zero, suc, ◌+◌, ◌*◌, ◌/◌, ◌%◌, ◌≤◌, ◌<◌}
 use mathlib.Core.Path.{◌≡◌, refl, sym, ap, ◌∙◌, subst}
 use mathlib.Core.Bool.{Bool, true, false, not, ◌&&◌}
 use mathlib.Core.List.{List, [], ◌∷◌}
 use native.Mathlib.Omega.{arith}
 use native.Mathlib.Decide.{ℕ_discrete, dec_lt}
-use borrow.Author.Tests.{lt-ltb, le-ltb, eq-eqb, ne_eqb, not-true, not-false}
+use borrow.Author.Tests.{lt-ltb, le-ltb, eq-eqb, ne_eqb}
 use lib.Dec.{T, eqb, ltb, ltb→lt, eqb→eq}
-use lib.ListN.{length, get_or, get_or-eq_default}
+use lib.ListN.{length}
 use Rattle.cases.specs.Cases.{pick, all, tabulate}
 use Rattle.cases.proofs.Bools.{holds as test-holds, and_left, and_right}
 use Rattle.protection.specs.Limits.{names, rights}
-use Rattle.protection.specs.State.{State, is_object, is_subject, object_in, subject_in}
+use Rattle.protection.specs.State.{State, object_in, subject_in}
 use Rattle.protection.specs.Command.{System}
 use Rattle.protection.specs.Need.{Cell, CellsThere}
 use Rattle.protection.specs.Proper.{Proper}
 use Rattle.protection.specs.Paper.{subject_is_object}
-use Rattle.matrix.specs.Bytes.{kind_of, view}
+use Rattle.matrix.specs.Bytes.{view}
 use Rattle.matrix.specs.Matrices.{state_of}
 use Rattle.policy.specs.Contents.{system_of}
 use Rattle.policy.specs.Fits.{PolicyFits}

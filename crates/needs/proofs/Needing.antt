@@ -1,21 +1,20 @@
 -- A need on a file: where nothing is refused, its answer is the truth about all runs that destroy no starting name; and so answer and buffer are all that is
 -- to be shown of the code. Assumes nothing.
-use Prim.Native.Nat.{ℕ, suc, ◌*◌, ◌≤◌}
+use Prim.Native.Nat.{ℕ, ◌*◌, ◌≤◌}
 use mathlib.Core.Path.{◌≡◌, refl, sym, ap, ap₂, ◌∙◌, subst}
 use mathlib.Core.Bool.{Bool, true, false, not}
 use mathlib.Core.List.{List}
 use native.Mathlib.Omega.{arith}
 use native.Mathlib.Decide.{ℕ_discrete}
 use borrow.Author.Tests.{eq-eqb, ne_eqb}
-use lib.Dec.{T, eqb}
+use lib.Dec.{eqb}
 use lib.ListN.{length, drop}
 use Rattle.std.specs.Prelude.{Result, Ok, Err, IsErrAnd}
 use Rattle.cases.specs.Cases.{pick}
 use Rattle.cases.proofs.Bools.{holds as test-holds}
 use Rattle.cases.proofs.Lists.{length_tabulate}
 use Rattle.protection.specs.Size.{step_bound}
-use Rattle.protection.specs.Command.{Call}
-use Rattle.protection.specs.Judge.{none_reserved, Question, Progress, all_rounds, Settled}
+use Rattle.protection.specs.Judge.{none_reserved, Question, Progress, all_rounds}
 use Rattle.protection.specs.Need.{held_beside, held_of, HeldAfter, NeverHeld}
 use Rattle.protection.proofs.Saturation.{Taken, rounds_settled}
 use Rattle.protection.proofs.Needed.{need_held, need_never, need_bound}
@@ -50,8 +49,9 @@ use Rattle.refusals.proofs.Codes.{number_above}
 use Rattle.needs.specs.declared.Need.{Need as CodeNeed}
 use Rattle.needs.specs.Needed.{need_told, list_refusal, need_refusal, file_rounds, need_of, file_need, steps_taken, need_buffer, Needed}
 use Rattle.needs.specs.Rounds.{need_rounds, NeedRounded}
-use Rattle.needs.specs.Needed.{Need, Refused, Held, Never}
-use Rattle.needs.proofs.Listed.{Listed, listed, taken_there, goal_fits}
+use Rattle.needs.specs.Needed.{Need}
+use Rattle.needs.specs.Needed.{Refused, Held, Never}
+use Rattle.needs.proofs.Listed.{listed, taken_there, goal_fits}
 
 -- ---- the rounds of a goal of cells
 pub need_asked : (p : Policy) (l : List ℕ) (n : ℕ) (G : Goal) → G ≡ held_goal l → Asked p (held_goal l) n → Asked p G n

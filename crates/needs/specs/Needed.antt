@@ -1,5 +1,5 @@
 -- What a press needs, on a file (document 02, C-14): its refusals, its answer, what it leaves of the buffer, and what it promises.
-use Rattle.std.specs.Prelude.{ℕ, ◌*◌, ◌/◌, ◌%◌, ◌≤◌, ◌≡◌, Bool, true, not, ◌&&◌, List, [], ◌∷◌, eqb, ltb, length, Result, Ok, Err}
+use Rattle.std.specs.Prelude.{ℕ, ◌/◌, ◌%◌, ◌≤◌, ◌≡◌, Bool, true, not, ◌&&◌, List, [], ◌∷◌, eqb, ltb, length, Result, Ok, Err}
 use Rattle.cases.specs.Cases.{pick}
 use Rattle.protection.specs.State.{State, object_in, subject_in}
 use Rattle.protection.specs.Size.{step_bound}

@@ -1,13 +1,11 @@
 -- The list as a mask, and the part of a policy: what the functions over them give.
-use Rattle.std.specs.Prelude.{ℕ, zero, suc, List, eqb, length, get_or}
+use Rattle.std.specs.Prelude.{ℕ, zero, suc, List, get_or}
 use Rattle.cases.specs.Cases.{pick, iterate}
 use Rattle.rights.specs.Rights.{has, insert}
 use Rattle.protection.specs.Limits.{names}
-use Rattle.protection.specs.State.{State}
 use Rattle.matrix.specs.Matrices.{renewed}
 use Rattle.matrix.specs.declared.Matrix.{Matrix}
 use Rattle.policy.specs.declared.Policy.{Policy}
-use Rattle.parts.specs.Parts.{trusted_refusal}
 
 -- the first n names of the list as digits of a mask
 unfoldable pub mask_of : List ℕ → ℕ → ℕ

@@ -41,11 +41,11 @@ fn read_trusted(kinds: &[u8; Matrix::NAMES], list: &[u8]) -> Result<u32, Refusal
     ensures read { IfOk result (λ mask. mask ≡ mask_of list.now (length list.now)) }
 {
     let mut mask = 0u32;
-    for i in 0..list.len() {
-        if !can_leave(kinds, mask, list[i]) {
+    for x in list {
+        if !can_leave(kinds, mask, *x) {
             return Err(Refusal::TrustedNames);
         }
-        mask = with_name(mask, list[i]);
+        mask = with_name(mask, *x);
     }
     Ok(mask)
 }

@@ -236,9 +236,6 @@ module _ (f : List ℕ) (r : ℕ) (b : List ℕ) (y : Prepared) (R : ReadyOf f y
     pub ready_judged : (answer : Judgement) (b' : List ℕ) → Concluded y.policy 0 r b answer b' → Judged f r b answer b'
     ready_judged = file_judged f r b R.accepted y.policy R.policy_is n
 
--- of what a file was prepared to
-pub prepared_is : (f : List ℕ) (x : Result Prepared Refusal) (y : Prepared) → x ≡ Ok y → PreparedOf f x → ReadyOf f y
-prepared_is f x y e P = IfOk-at_ok (λ (z : Prepared). ReadyOf f z) e P.ready
-
+-- a file that could not be prepared
 pub prepared_not : (f : List ℕ) (x : Result Prepared Refusal) (d : Refusal) → x ≡ Err d → PreparedOf f x → (r : ℕ) (b : List ℕ) → Judged f r b (Refused (number_of d)) b
 prepared_not f x d e P r b = file_refused f r b d (sym (ap code e) ∙ P.refused)

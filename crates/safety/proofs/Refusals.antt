@@ -1,5 +1,5 @@
 -- The refusals of whoever calls for a verdict: what the code tests, and what holds where none is given. Assumes nothing.
-use Prim.Native.Nat.{ℕ, suc, ◌*◌, ◌≤◌, ◌<◌}
+use Prim.Native.Nat.{ℕ, suc, ◌≤◌, ◌<◌}
 use mathlib.Core.Path.{◌≡◌, refl, sym, ◌∙◌}
 use mathlib.Core.Bool.{Bool, true, false}
 use mathlib.Core.List.{List}
@@ -22,7 +22,7 @@ use Rattle.visits.specs.Engine.{Asked}
 use Rattle.questions.specs.Refusals.{size_refusal}
 use Rattle.questions.specs.Rounded.{BasisOf}
 use Rattle.questions.specs.declared.Basis.{Basis}
-use Rattle.questions.proofs.Refusals.{Sized, sized, open_asked}
+use Rattle.questions.proofs.Refusals.{open_asked}
 use Rattle.protection.specs.Judge.{Verdict}
 use Rattle.safety.specs.Judgement.{caller_refusal, judge_refusal, file_verdict, judgement_of, judgement_by, file_judgement, filled, buffer_by, file_buffer}
 use Rattle.safety.specs.Demand3.{Refused}

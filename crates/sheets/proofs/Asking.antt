@@ -1,14 +1,13 @@
 -- One entry, judged on its part of the buffer. Assumes nothing.
-use Prim.Native.Nat.{ℕ, ◌+◌, ◌-◌, ◌/◌, ◌^◌, ◌≤◌, ◌<◌}
-use mathlib.Core.Path.{◌≡◌, sym, ap, ap₂, ◌∙◌, subst}
-use Rattle.std.specs.Prelude.{Result, Ok, Err}
+use Prim.Native.Nat.{ℕ, ◌+◌, ◌-◌, ◌^◌, ◌≤◌, ◌<◌}
+use mathlib.Core.Path.{◌≡◌, ap, ap₂, ◌∙◌}
+use Rattle.std.specs.Prelude.{Result}
 use mathlib.Core.List.{List, ◌++◌}
 use native.Mathlib.Decide.{ℕ_discrete}
 use native.Mathlib.Omega.{arith}
 use lib.ListN.{length, take, drop, length-drop}
 use lib.Seq.{length-take-le}
 use Rattle.protection.specs.Limits.{rights}
-use Rattle.refusals.specs.Numbers.{number_of}
 use Rattle.refusals.specs.declared.Refusal.{Refusal}
 use Rattle.policy.specs.Contents.{policy_of, file_state, file_system}
 use Rattle.policy.proofs.Accepted.{accepted}
@@ -22,11 +21,6 @@ use Rattle.safety.proofs.Consequences.{few_written}
 use Rattle.safety.proofs.Refusals.{none_refused, passed, refuses}
 use Rattle.sheets.specs.declared.Entry.{Entry}
 use Rattle.sheets.specs.Sheets.{entry_of, answered, part_filled}
-
--- ---- an answer as an entry
-module _ (r : ℕ) (x : Result Verdict Refusal) where
-  pub entry_refused : (d : Refusal) → x ≡ Err d → (n : ℕ) → n ≡ number_of d → ◌≡◌ {A = Entry} (record { right = r; verdict = n; count = 0 }) (entry_of r (judgement_told x))
-  entry_refused d e n q = rw (e, q)
 
 -- ---- the count of steps fits two bytes
 few_rights : (f : List ℕ) (r n : ℕ) → judge_refusal f r n ≡ 0 → (file_system f).rights ≤ rights

@@ -10,7 +10,8 @@ ghost use Rattle.sheets.specs.Sheets.{entry_of, answered, part_filled, sheet_aft
 use refusals::Refusal;
 use safety::{Prepared, Verdict};
 
-// An entry of a sheet: a right, and the place for its answer: the verdict, 0 safe, 255 unsafe, else the refusal, and the number of steps written.
+// An entry of a sheet: a right, and the place for its answer: the verdict, 0 safe, 255 unsafe, else the refusal, and the number of steps written. A number and no
+// enum, since document 02 gives the entry this form and C reads it.
 #[derive(Clone, Copy)]
 pub struct Entry {
     pub right: u8,

@@ -103,6 +103,7 @@ fn replay_steps(p: &Policy, trace: &[u8], right: u8) -> Result<Option<usize>, Re
     let n = trace.len() / 5;
     let mut matrix = p.matrix;
     let mut reader = TraceReader::new(trace);
+    // the reader itself remembers how far it has come, as document 01 says
     while reader.at < n {
         let step = reader.step();
         let answer = execution::call(p, &mut matrix, step.command, step.actuals, right);

@@ -1,6 +1,5 @@
 use native.Mathlib.Omega.{arith}
 use Rattle.needs.proofs.Listed.{kinds_long, list_part, list_long, list_taken, list_none}
-use borrow.Author.Rules.{rules}
 use Rattle.needs.proofs.check_list.Goals as goal
 
 pub returns-then-list-ne0 : goal.returns-then-list-ne0

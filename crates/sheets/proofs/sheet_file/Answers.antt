@@ -1,7 +1,7 @@
 use Rattle.std.proofs.Common.{List, ℕ, ◌≡◌, ◌*◌, ◌≤◌, ◌∙◌, length, sym, ap, subst, arith}
 use Rattle.sheets.specs.declared.Entry.{Entry}
 use Rattle.sheets.specs.Sheets.{part_length, answers, parts_filled}
-use Rattle.sheets.proofs.Filling.{filling_start, filling_on, filling_end, part_inside}
+use Rattle.sheets.proofs.Filling.{filling_on, filling_end, part_inside}
 use Rattle.sheets.proofs.Promise.{parts_fit, sheet_refused, sheet_answered}
 use Rattle.sheets.proofs.sheet_file.Goals as goal
 
@@ -14,9 +14,6 @@ room s b k e = subst (λ (n : ℕ). length s * n ≤ length b) (sym e) (parts_fi
 
 pub returns-then-n-gt-SHEET : goal.returns-then-n-gt-SHEET
 returns-then-n-gt-SHEET c = sheet_refused _ _ _ c.if-n-gt-SHEET.true
-
-pub loop-i-init : goal.loop-i-init
-loop-i-init c = filling_start _ _ _ _
 
 pub ask-requires : goal.ask-requires
 ask-requires c = ((c.args.file.now, c.prepare_file-prepared.ensures), part_inside _ _ _ _ _ _ _ c.loop-i.invariant blank (omega arith) (room _ _ _ c.part_length-part.ensures))
