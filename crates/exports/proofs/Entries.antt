@@ -14,8 +14,8 @@ use Rattle.cases.specs.Cases.{pick, tabulate}
 use Rattle.cases.proofs.Lists.{length_tabulate, take_tabulate}
 use Rattle.sheets.specs.Sheets.{sheet_limit, sheet_refusal, sheet_after, buffer_after, FirstSheeted}
 use Rattle.sheets.specs.declared.Entry.{Entry}
-use Rattle.std.specs.Prelude.{Result, Ok, Err, IfOk}
-use Rattle.refusals.specs.Numbers.{number_of, code}
+use Rattle.std.specs.Prelude.{Ok, Err}
+use Rattle.refusals.specs.Numbers.{number_of}
 use Rattle.refusals.specs.declared.Refusal.{Refusal}
 use Rattle.refusals.proofs.Codes.{number_above}
 use Rattle.sheets.proofs.Promise.{sheeted, sheet_length}

@@ -114,9 +114,9 @@ pub extern "C" fn access_need(file: &[u8], list: &[u8], buffer: &mut [u8], steps
     ensures { NeedAnswer file.now list.now buffer.old result steps.new buffer.new }
 {
     match needs::need_file(file, list, buffer) {
-        Err(by) => {
+        Err(reason) => {
             *steps = 0;
-            by.number()
+            reason.number()
         }
         Ok(Need::Held(n)) => {
             *steps = n as u64;
