@@ -114,9 +114,9 @@ pub extern "C" fn access_need(file: &[u8], list: &[u8], buffer: &mut [u8], steps
     ensures { NeedAnswer file.now list.now buffer.old result steps.new buffer.new }
 {
     match needs::need_file(file, list, buffer) {
-        Err(by) => {
+        Err(reason) => {
             *steps = 0;
-            by.number()
+            reason.number()
         }
         Ok(Need::Held(n)) => {
             *steps = n as u64;
@@ -137,16 +137,9 @@ fn entry_at(entries: &[u8], i: usize) -> Entry
     requires { i < 8 }
     ensures { result ≡ entry_at entries.now i }
 {
-    let at = ENTRY * i;
-    if at < entries.len() {
-        return Entry {
-            right: entries[at],
-            verdict: 0,
-            count: 0,
-        };
-    }
+    let right = entries.get(ENTRY * i).copied().unwrap_or(0);
     Entry {
-        right: 0,
+        right,
         verdict: 0,
         count: 0,
     }
@@ -176,9 +169,7 @@ fn write_entry(entries: &mut [u8], i: usize, q: Entry)
     let at = ENTRY * i;
     entries[at] = q.right;
     entries[at + 1] = q.verdict;
-    let count = q.count.to_le_bytes();
-    entries[at + 2] = count[0];
-    entries[at + 3] = count[1];
+    [entries[at + 2], entries[at + 3]] = q.count.to_le_bytes();
 }
 
 // The first n entries, as bytes.
@@ -187,8 +178,7 @@ fn write_entries(entries: &mut [u8], sheet: [Entry; Entry::SHEET], n: usize)
     ensures { entries.new ≡ entries_written (take n sheet) entries.old }
 {
     for i in 0..n {
-        let q = sheet[i];
-        write_entry(entries, i, q);
+        write_entry(entries, i, sheet[i]);
     }
 }
 

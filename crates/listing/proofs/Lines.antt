@@ -1,10 +1,10 @@
 -- The lines of the steps in a buffer. Assumes nothing.
 use Prim.Native.Nat.{ℕ, zero, suc, ◌+◌, ◌*◌, ◌≤◌}
 use mathlib.Core.Path.{◌≡◌, sym, ap, ◌∙◌, subst}
-use mathlib.Core.List.{List, [], ◌∷◌, ◌++◌, map, append_assoc, append-nil}
+use mathlib.Core.List.{List, [], ◌∷◌, ◌++◌, append_assoc, append-nil}
 use native.Mathlib.Numerals.{add-one}
 use native.Mathlib.Omega.{arith}
-use lib.ListN.{length, get_or, get_or-eq_default, length-map}
+use lib.ListN.{length, get_or, get_or-eq_default}
 use Rattle.cases.specs.Cases.{tabulate}
 use Rattle.protection.specs.Command.{Call}
 use Rattle.commands.specs.Contents.{missing}
