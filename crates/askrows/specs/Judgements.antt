@@ -1,7 +1,7 @@
 -- Judgements (document 01, "Leak, replay and judge"): 21 to 24, and files in which the judge's order decides which steps are written.
 use Rattle.std.specs.Prelude.{ℕ, List, [], ◌∷◌}
 use Rattle.protection.specs.Command.{Call}
-use Rattle.safety.specs.declared.Judgement.TheVariants.{Safe, Unsafe}
+use Rattle.safety.specs.Demand3.{Safe, Unsafe}
 use Rattle.rows.specs.Build.{an_object, a_subject, objects_below, cell_with, if_in, enter, delete, create_subject, create_object, destroy_subject, destroy_object, rule_bytes, on_name, on_cell, entering, file_of, call, text}
 use Rattle.rows.specs.Cases.{prints, Row, row}
 use Rattle.rows.specs.Asked.{judge_refused, judge_answers}

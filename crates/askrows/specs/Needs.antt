@@ -1,6 +1,6 @@
 -- What a press needs (document 02, C-14): 41, and the order of the refusals; held, and never.
 use Rattle.std.specs.Prelude.{ℕ, zero, suc, List, [], ◌∷◌}
-use Rattle.needs.specs.declared.Need.TheVariants.{Held, Never}
+use Rattle.needs.specs.Needed.{Held, Never}
 use Rattle.rows.specs.Build.{an_object, a_subject, objects_below, cell_with, enter, create_object, on_name, on_cell, entering, file_of, call}
 use Rattle.rows.specs.Cases.{Row, row}
 use Rattle.rows.specs.Asked.{need_refused, need_answers}

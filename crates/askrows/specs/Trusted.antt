@@ -1,6 +1,6 @@
 -- Trusted hands left out (document 02, C-15): 42, and the order of the refusals; the part that stays, and the names that it creates.
 use Rattle.std.specs.Prelude.{ℕ, List, [], ◌∷◌}
-use Rattle.safety.specs.declared.Judgement.TheVariants.{Safe, Unsafe}
+use Rattle.safety.specs.Demand3.{Safe, Unsafe}
 use Rattle.rows.specs.Build.{CellAt, an_object, a_subject, objects_below, cell_with, if_in, enter, delete, create_subject, create_object, rule_bytes, on_name, on_cell, file_of, call}
 use Rattle.rows.specs.Cases.{Row, row}
 use Rattle.rows.specs.Asked.{part_refused, part_answers}

@@ -1,9 +1,10 @@
 -- A step that is looked for: the loop over the commands, on the matrix as it is and on the matrix without the right. Assumes nothing.
-use Prim.Native.Nat.{ℕ, zero, suc, ◌+◌, ◌-◌, ◌*◌, ◌≤◌, ◌<◌}
+use Prim.Native.Nat.{ℕ, zero, suc, ◌+◌, ◌-◌, ◌≤◌, ◌<◌}
 use mathlib.Core.Path.{◌≡◌, refl, sym, ap, ap₂, ◌∙◌, subst}
 use mathlib.Core.Bool.{Bool, true, false}
 use mathlib.Core.List.{List}
 use mathlib.Core.Option.{Option, none, some}
+use Rattle.std.specs.Prelude.{Option as Answered, Some, None, is_some}
 use native.Mathlib.Omega.{arith}
 use native.Mathlib.Decide.{dec_lt}
 use native.Mathlib.Nat.{sub-zero}
@@ -12,22 +13,21 @@ use borrow.Author.Tests.{lt-ltb, le-ltb}
 use lib.Dec.{ltb}
 use lib.ListN.{get_or, get_elem?}
 use Rattle.cases.specs.Cases.{pick, tabulate}
-use Rattle.rights.specs.Rights.{has, delete}
+use Rattle.rights.specs.Rights.{has}
 use Rattle.rights.proofs.Sets.{has_none}
 use Rattle.protection.specs.Limits.{names, rights}
 use Rattle.protection.specs.State.{State}
-use Rattle.protection.specs.Command.{Command as ModelCommand, System, Call, actuals}
+use Rattle.protection.specs.Command.{Command as ModelCommand, System, Call}
 use Rattle.protection.specs.Judge.{first_in, names_at, choices, operation_in, places_of, four_of, call_at, allowed, first_call}
 use Rattle.matrix.specs.Matrices.{state_of, deleted}
 use Rattle.matrix.specs.declared.Matrix.{Matrix}
 use Rattle.masks.specs.First.{first}
-use Rattle.masks.specs.Told.{replaced}
 use Rattle.masks.specs.declared.Tables.{Tables}
 use Rattle.masks.proofs.First.{Least, least}
 use Rattle.commands.specs.Contents.{missing, meaning}
 use Rattle.commands.specs.declared.Command.{Command}
 use Rattle.queries.specs.Useful.{doable, names_of_place, touched_by, touches_at, Tried}
-use Rattle.queries.specs.Sought.{tables_of, Seen, SeenBySome, FirstTouching}
+use Rattle.queries.specs.Sought.{Seen, SeenBySome, FirstTouching}
 use Rattle.queries.specs.declared.Touch.{Touch}
 use Rattle.queries.proofs.Picking.{first_same, gone_state, gone_seen}
 use Rattle.policy.specs.Contents.{system_of}
@@ -36,9 +36,8 @@ use Rattle.visits.specs.Engine.{command_number, SingleSteps}
 use Rattle.visits.proofs.Asked.{policy_carried, command_found}
 use Rattle.visits.proofs.Visits.{allowed_is}
 use Rattle.calls.specs.Calls.{found_call, Covers, touching, gone_from, masks_without, first_touching, place_touching, touching_in, TouchingFound, Lookable}
-use Rattle.calls.specs.declared.Found.{Found}
+use Rattle.calls.specs.declared.Call.{Call as CodeCall}
 use Rattle.commands.specs.Fits.{Fits}
-use Rattle.commands.specs.declared.Operation.TheVariants as code
 use Rattle.commands.proofs.Reading.{fits_wider}
 use Rattle.policy.specs.Fits.{PolicyFits}
 
@@ -56,18 +55,13 @@ module _ (m : Matrix) (t : Tables) (w : Touch) (n i : ℕ) (C : ModelCommand) (a
   unfolding touching_in place_touching
   here S z = ap₂ (λ (a k : ℕ). pick (ltb a k) (some (call_at i C n a)) none) (found.of S z) size_is
 
-  pub call_found : at < size → (a : List ℕ) → a ≡ names_at (choices C n) at → (x : Found) → x ≡ record { found = true; rule = i; actuals = a } → TouchingFound i C n m t w x
-  call_found l a d x f = record {
-    of = λ S z. ap found_call f ∙ ap (λ (l : List ℕ). some (four_of i l)) d ∙ ap (λ (b : Bool). pick b (some (call_at i C n at)) none) (sym (lt-ltb at size l)) ∙ here S z;
+  pub call_found : at < size → (a : List ℕ) → a ≡ names_at (choices C n) at → TouchingFound i C n m t w (Some record { rule = i; actuals = a })
+  call_found l a d = record {
+    of = λ S z. ap (λ (l : List ℕ). some (four_of i l)) d ∙ ap (λ (b : Bool). pick b (some (call_at i C n at)) none) (sym (lt-ltb at size l)) ∙ here S z;
   }
 
-  pub call_missing : size ≤ at → (x : Found) → found_call x ≡ none → TouchingFound i C n m t w x
-  call_missing l x f = record { of = λ S z. f ∙ ap (λ (b : Bool). pick b (some (call_at i C n at)) none) (sym (le-ltb at size l)) ∙ here S z }
-
--- ---- for `masks_without`
-pub masks_left : (carried cells row col : List ℕ) (w : Touch) (rest : ℕ) → rest ≡ delete (get_or cells (names * w.subject + w.object) 0) w.right → (x : Tables)
-    → x ≡ replaced carried (tables_of row col) w.subject w.object rest → x ≡ masks_without carried w cells (tables_of row col)
-masks_left carried cells row col w rest e x d = d ∙ ap (replaced carried (tables_of row col) w.subject w.object) e
+  pub call_missing : size ≤ at → TouchingFound i C n m t w None
+  call_missing l = record { of = λ S z. ap (λ (b : Bool). pick b (some (call_at i C n at)) none) (sym (le-ltb at size l)) ∙ here S z }
 
 -- ---- the loop over the commands
 -- the first of two that is there
@@ -84,9 +78,15 @@ or_none : (x y : Option Call) → x ≡ none → or_else x y ≡ y
 unfolding or_else
 or_none x y e = rw e
 
-or_found : (b : Bool) (x : Call) (y : Option Call) → b ≡ true → ◌≡◌ {A = Option Call} (pick b (some x) none) (or_else (pick b (some x) none) y)
+or_found : (x : Answered CodeCall) (y : Option Call) → is_some x ≡ true → found_call x ≡ or_else (found_call x) y
 unfolding or_else
-or_found b x y e = rw e
+or_found (Some x) y e = refl
+or_found None y e = cc
+
+or_missed : (x : Answered CodeCall) (y : Option Call) → is_some x ≡ false → or_else (found_call x) y ≡ y
+unfolding or_else
+or_missed (Some x) y e = cc
+or_missed None y e = refl
 
 touching_is : (S : System) (m : State) (w : Touch) (i : ℕ) (C : ModelCommand) → get_elem? S.commands i ≡ some C → (n q : ℕ) → touches_at S m w C n q ≡ touching S m w C (call_at i C n q)
 touching_is S m w i C found n q = go (touched_by w (names_of_place C n q) (operation_in C))
@@ -190,8 +190,8 @@ module _ (p : Policy) (m : Matrix) (t : Tables) (n : ℕ) (w : Touch) where
     pub looking_seen : SeenBySome m t
     looking_seen = record { system = system_of p; seen = K.asked.closable.seen }
 
-    pub looking_end : count ≤ i → (x : Found) → found_call x ≡ none → found_call x ≡ first_touching (system_of p) (state_of m) w n
-    looking_end l x e = e ∙ sym (from_end p (state_of m) n w i (omega (arith, K.number))) ∙ K.rest
+    pub looking_end : count ≤ i → none ≡ first_touching (system_of p) (state_of m) w n
+    looking_end l = sym (from_end p (state_of m) n w i (omega (arith, K.number))) ∙ K.rest
 
     module _ (l : i < count) where
       pub looking_number : i < 32
@@ -206,26 +206,25 @@ module _ (p : Policy) (m : Matrix) (t : Tables) (n : ℕ) (w : Touch) where
         pub looking_tried : Tried c n
         looking_tried = command_tried p K.asked.closable.fits K.asked.closable.single n K.asked.name i (rw K.number at l) c e
 
-        module _ (x : Found) (d : TouchingFound i (meaning c) n m t w x) where
+        module _ (x : Answered CodeCall) (d : TouchingFound i (meaning c) n m t w x) where
           this : found_call x ≡ found p (state_of m) n w i
           this = d.of (system_of p) K.asked.closable.seen ∙ ap (λ (d : Command). touching_in (system_of p) (state_of m) w n i (meaning d)) e
 
           onward : from p (state_of m) n w i ≡ or_else (found_call x) (from p (state_of m) n w (i + 1))
           onward = from_more p (state_of m) n w i (rw K.number at l) ∙ ap (λ (y : Option Call). or_else y (from p (state_of m) n w (i + 1))) (sym this)
 
-          pub looking_found : x.found ≡ true → found_call x ≡ first_touching (system_of p) (state_of m) w n
-          looking_found f = or_found x.found (four_of x.rule x.actuals) (from p (state_of m) n w (i + 1)) f ∙ sym onward ∙ K.rest
+          pub looking_found : (b : Bool) → b ≡ is_some x → b ≡ true → found_call x ≡ first_touching (system_of p) (state_of m) w n
+          looking_found b u f = or_found x (from p (state_of m) n w (i + 1)) (sym u ∙ f) ∙ sym onward ∙ K.rest
 
-          pub looking_more : x.found ≡ false → (i' : ℕ) → i' ≡ first (has which) (i + 1) names → Looking which count i'
-          looking_more f i' g =
+          pub looking_more : (b : Bool) → b ≡ is_some x → b ≡ false → (i' : ℕ) → i' ≡ first (has which) (i + 1) names → Looking which count i'
+          looking_more b u f i' g =
               let j = jumped p (state_of m) n w which K.by (i + 1) i' (omega (arith, looking_number)) g in
-              let u : found_call x ≡ none = rw f in
               record {
                 asked = K.asked;
                 by = K.by;
                 number = K.number;
                 most = j.0;
-                rest = sym j.2 ∙ sym (or_none (found_call x) (from p (state_of m) n w (i + 1)) u) ∙ sym onward ∙ K.rest;
+                rest = sym j.2 ∙ sym (or_missed x (from p (state_of m) n w (i + 1)) (sym u ∙ f)) ∙ sym onward ∙ K.rest;
               }
 
 -- ---- on the matrix without the right
@@ -262,5 +261,5 @@ module _ (p : Policy) (m : Matrix) (t : Tables) (n : ℕ) (w : Touch) (K : Looka
     pub covers_gone : (which : ℕ) → Covers p n w (gone_from w (state_of m)) which → Covers p n w (state_of gone) which
     covers_gone which W = subst (λ (z : State). Covers p n w z which) (sym lost) W
 
-    pub returned_gone : (x : Found) → found_call x ≡ first_touching (system_of p) (state_of gone) w n → found_call x ≡ first_touching (system_of p) (gone_from w (state_of m)) w n
+    pub returned_gone : (x : Answered CodeCall) → found_call x ≡ first_touching (system_of p) (state_of gone) w n → found_call x ≡ first_touching (system_of p) (gone_from w (state_of m)) w n
     returned_gone x d = d ∙ ap (λ (z : State). first_touching (system_of p) z w n) lost

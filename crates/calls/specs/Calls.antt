@@ -1,5 +1,5 @@
 -- A step that is looked for: the first call that makes it.
-use Rattle.std.specs.Prelude.{ℕ, ◌+◌, ◌*◌, ◌≤◌, ◌<◌, ◌≡◌, Bool, true, false, List, ltb, get_or}
+use Rattle.std.specs.Prelude.{ℕ, ◌+◌, ◌*◌, ◌≤◌, ◌<◌, ◌≡◌, Bool, true, false, List, ltb, get_or, Option as Answered, Some, None}
 use Rattle.std.proofs.Math.Option.{Option, none, some}
 use Rattle.cases.specs.Cases.{pick}
 use Rattle.rights.specs.Rights.{has, delete}
@@ -20,11 +20,15 @@ use Rattle.policy.specs.Contents.{system_of}
 use Rattle.policy.specs.Fits.{PolicyFits}
 use Rattle.policy.specs.declared.Policy.{Policy}
 use Rattle.visits.specs.Engine.{SingleSteps}
-use Rattle.calls.specs.declared.Found.{Found}
+use Rattle.calls.specs.declared.Call.{Call as CodeCall}
 
--- ---- the struct `Found`
-abbrev pub found_call : Found → Option Call
-found_call x = pick x.found (some (four_of x.rule x.actuals)) none
+-- ---- the struct `Call`: a call that was found, or nothing
+abbrev pub call_of : CodeCall → Call
+call_of x = four_of x.rule x.actuals
+
+abbrev pub found_call : Answered CodeCall → Option Call
+found_call (Some x) = some (call_of x)
+found_call None = none
 
 -- ---- a step that is looked for, in state m
 -- the call makes it, and is allowed
@@ -52,7 +56,7 @@ unfoldable pub touching_in : System → State → Touch → ℕ → ℕ → Comm
 touching_in S m w n i C = pick (ltb (place_touching S m w n C) (places_of C n)) (some (call_at i C n (place_touching S m w n C))) none
 
 -- it was found, in every system under which the masks are seen
-pub record TouchingFound (i : ℕ) (C : Command) (n : ℕ) (m : Matrix) (t : Tables) (w : Touch) (x : Found) : Type 0 where
+pub record TouchingFound (i : ℕ) (C : Command) (n : ℕ) (m : Matrix) (t : Tables) (w : Touch) (x : Answered CodeCall) : Type 0 where
   pub of : (S : System) → Seen S m t → found_call x ≡ touching_in S (state_of m) w n i C
 
 -- no command outside the mask has such a call

@@ -2,12 +2,11 @@
 #![tactic(auto)]
 
 ghost use Rattle.std.specs.Prelude.{◌≡◌, ◌<◌};
-ghost use Rattle.std.proofs.Math.Option.{none};
 ghost use Rattle.protection.specs.Limits.{names, rights, commands};
-ghost use Rattle.matrix.specs.Matrices.{state_of, matrix_of};
+ghost use Rattle.matrix.specs.Matrices.{state_of};
 ghost use Rattle.commands.specs.Contents.{meaning};
 ghost use Rattle.queries.specs.Useful.{Tried};
-ghost use Rattle.queries.specs.Sought.{tables_of, SeenBySome};
+ghost use Rattle.queries.specs.Sought.{SeenBySome};
 ghost use Rattle.policy.specs.Contents.{system_of};
 ghost use Rattle.calls.specs.Calls.{found_call, TouchingFound, first_touching, gone_from, masks_without, Covers, Lookable};
 
@@ -18,127 +17,89 @@ use policy::Policy;
 use queries::Touch;
 use rights::Set;
 
-// A call that was looked for; rule and actuals count only where it was found.
+// A call that was found: a command's number, and four actuals.
 #[derive(Clone, Copy)]
-pub struct Found {
-    pub found: bool,
+pub struct Call {
     pub rule: u8,
     pub actuals: [u8; Command::PARAMETERS],
 }
 
-pub fn not_found() -> Found
-    ensures { found_call result ≡ none }
-{
-    Found {
-        found: false,
-        rule: 0,
-        actuals: [0u8; Command::PARAMETERS],
-    }
-}
-
 // The first call of the command, which is number i, that makes the step; a create would get name n.
-fn call_of<'a>(
+fn call_of(
     c: Command,
     i: usize,
     n: usize,
     touch: Touch,
-    kinds: &'a [u8; Matrix::NAMES],
-    cells: &'a [Set; Matrix::NAMES * Matrix::NAMES],
-    row: &'a [u32; Matrix::NAMES * Tables::FACTS],
-    col: &'a [u32; Matrix::NAMES * Tables::FACTS],
-) -> Found
-    requires { Tried c n × (i < commands) × SeenBySome (matrix_of kinds.now cells.now) (tables_of row.now col.now) × (touch.subject < names) × (touch.object < names) }
-    ensures { TouchingFound i (meaning c) n (matrix_of kinds.now cells.now) (tables_of row.now col.now) touch result }
+    matrix: &Matrix,
+    tables: &Tables,
+) -> Option<Call>
+    requires { Tried c n × (i < commands) × SeenBySome matrix.now tables.now × (touch.subject < names) × (touch.object < names) }
+    ensures { TouchingFound i (meaning c) n matrix.now tables.now touch result }
 {
-    let at = queries::first_on_cell(c, n, touch, kinds, cells, row, col);
+    let at = queries::first_on_cell(c, n, touch, matrix, tables);
     if at < queries::places(c, n) {
-        let actuals = queries::actuals_at(c, n, at);
-        return Found {
-            found: true,
+        return Some(Call {
             rule: i as u8,
-            actuals,
-        };
+            actuals: queries::actuals_at(c, n, at),
+        });
     }
-    not_found()
+    None
 }
 
 // The first call that makes the step, commands in order; those of the mask may have one.
-pub fn first_call<'a>(
-    p: Policy,
+pub fn first_call(
+    p: &Policy,
     which: u32,
     n: usize,
     touch: Touch,
-    kinds: &'a [u8; Matrix::NAMES],
-    cells: &'a [Set; Matrix::NAMES * Matrix::NAMES],
-    row: &'a [u32; Matrix::NAMES * Tables::FACTS],
-    col: &'a [u32; Matrix::NAMES * Tables::FACTS],
-) -> Found
-    requires { Lookable p n touch (matrix_of kinds.now cells.now) (tables_of row.now col.now) × Covers p n touch (state_of (matrix_of kinds.now cells.now)) which }
-    ensures { found_call result ≡ first_touching (system_of p) (state_of (matrix_of kinds.now cells.now)) touch n }
+    matrix: &Matrix,
+    tables: &Tables,
+) -> Option<Call>
+    requires { Lookable p.now n touch matrix.now tables.now × Covers p.now n touch (state_of matrix.now) which }
+    ensures { found_call result ≡ first_touching (system_of p.now) (state_of matrix.now) touch n }
 {
     let count = p.commands as usize;
     let mut i = masks::next_bit(which, 0);
+    // goes from one command of the mask to the next
     while i < count {
-        let c = p.command[i];
-        let call = call_of(c, i, n, touch, kinds, cells, row, col);
-        if call.found {
+        let call = call_of(p.command[i], i, n, touch, matrix, tables);
+        if call.is_some() {
             return call;
         }
         i = masks::next_bit(which, i + 1);
     }
-    not_found()
+    None
 }
 
 // The masks once the right is gone from the cell: the cell meets what the rights that stay carry.
-fn masks_without<'a>(
-    carried: [Set; Matrix::RIGHTS as usize],
+fn masks_without(
+    carried: &[Set; Matrix::RIGHTS as usize],
     touch: Touch,
-    cells: &'a [Set; Matrix::NAMES * Matrix::NAMES],
-    row: &'a [u32; Matrix::NAMES * Tables::FACTS],
-    col: &'a [u32; Matrix::NAMES * Tables::FACTS],
+    matrix: &Matrix,
+    tables: &Tables,
 ) -> Tables
     requires { (touch.right < rights) × (touch.subject < names) × (touch.object < names) }
-    ensures { result ≡ masks_without carried touch cells.now (tables_of row.now col.now) }
+    ensures { result ≡ masks_without carried.now touch matrix.now.cells tables.now }
 {
-    let tables = Tables {
-        row: *row,
-        col: *col,
-    };
     let s = touch.subject;
     let o = touch.object;
-    let rest = rights::without_right(cells[Matrix::NAMES * s + o], touch.right);
-    masks::with_cell(tables, s, o, rest, &carried)
+    let rest = rights::without_right(matrix.cells[Matrix::NAMES * s + o], touch.right);
+    tables.with_cell(s, o, rest, carried)
 }
 
 // The first such call once the right is gone from the cell, on a copy without it: an enter returns it.
-pub fn first_return<'a>(
-    p: Policy,
+pub fn first_return(
+    p: &Policy,
     which: u32,
     n: usize,
     touch: Touch,
-    kinds: &'a [u8; Matrix::NAMES],
-    cells: &'a [Set; Matrix::NAMES * Matrix::NAMES],
-    row: &'a [u32; Matrix::NAMES * Tables::FACTS],
-    col: &'a [u32; Matrix::NAMES * Tables::FACTS],
-) -> Found
-    requires { Lookable p n touch (matrix_of kinds.now cells.now) (tables_of row.now col.now) × Covers p n touch (gone_from touch (state_of (matrix_of kinds.now cells.now))) which }
-    ensures { found_call result ≡ first_touching (system_of p) (gone_from touch (state_of (matrix_of kinds.now cells.now))) touch n }
+    matrix: &Matrix,
+    tables: &Tables,
+) -> Option<Call>
+    requires { Lookable p.now n touch matrix.now tables.now × Covers p.now n touch (gone_from touch (state_of matrix.now)) which }
+    ensures { found_call result ≡ first_touching (system_of p.now) (gone_from touch (state_of matrix.now)) touch n }
 {
-    let matrix = Matrix {
-        kinds: *kinds,
-        cells: *cells,
-    };
     let gone = matrix.without_right(touch.right, touch.subject, touch.object);
-    let carried = p.carried;
-    let without = masks_without(carried, touch, cells, row, col);
-    first_call(
-        p,
-        which,
-        n,
-        touch,
-        &gone.kinds,
-        &gone.cells,
-        &without.row,
-        &without.col,
-    )
+    let without = masks_without(&p.carried, touch, matrix, tables);
+    first_call(p, which, n, touch, &gone, &without)
 }

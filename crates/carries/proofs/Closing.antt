@@ -12,7 +12,7 @@ use lib.Bits.{bit_or, or_lt}
 use lib.Dec.{T, eqb}
 use lib.ListN.{length, get_or, set, get_or-eq_default}
 use lib.Pow.{pow_pos}
-use Rattle.cases.specs.Cases.{any}
+use Rattle.cases.specs.Cases.{any, tabulate}
 use Rattle.cases.proofs.Bools.{or_cases, or_left, or_right, same_truth}
 use Rattle.cases.proofs.Loops.{any_one, any_intro, any_same, any_none}
 use Rattle.cases.proofs.Lists.{length_tabulate, tabulate_same}
@@ -151,13 +151,13 @@ module _ (g : ℕ) (l ends : List ℕ) where
       (λ k a b. ap (λ (x : List ℕ). get_or x k 0) e ∙ ends_at g l n k b
       ∙ number_same (chained g (carried_in l) n k) (chained g (carried_in l) (suc n) k) rights (λ q _. chained_alone g l n k q (omega arith) ∙ sym (chained_alone g l (suc n) k q (omega arith))))
 
--- ---- the loop of `alone`
+-- ---- the table of `alone`
 pub alone_is : (v i : ℕ) → i < rights → v ≡ insert 0 i → v ≡ number (eqb i) rights
 alone_is v i l e = rw e (number_is (eqb i) (insert 0 i) (insert_below rights 0 i l (pow_pos rights)) (λ q _. has_alone i q))
 
-pub alone_end : (old all : List ℕ) (i : ℕ) → rights ≤ i → Filling rights (λ k. number (eqb k) rights) old all i → (g : ℕ) (l : List ℕ) → all ≡ ends_of g l 0
+pub alone_end : (all : List ℕ) → all ≡ tabulate (λ k. number (eqb k) rights) rights 0 → (g : ℕ) (l : List ℕ) → all ≡ ends_of g l 0
 unfolding ends_of chained
-alone_end old all i h K g l = filling_end rights (λ k. number (eqb k) rights) old all i K (λ k a b. absurd (omega arith))
+alone_end all e g l = e
 
 -- ---- the loop of `carried`
 pub ends_more : (g : ℕ) (l next : List ℕ) (n : ℕ) → next ≡ ends_of g l (suc n) → next ≡ ends_of g l (n + 1)
@@ -200,12 +200,12 @@ module _ (sets : List ℕ) (q : ℕ) where
   pub holding_end : (set i : ℕ) → rights ≤ i → Holding sets q set i → set ≡ number (λ k. has (get_or sets k 0) q) rights
   holding_end set i l K = number_is (λ k. has (get_or sets k 0) q) set K.few (λ k h. K.done k (omega arith))
 
--- ---- the loop of `carriers`
-pub turned : (old carried all : List ℕ) (i : ℕ) → rights ≤ i → Filling rights (λ q. number (λ k. has (get_or carried k 0) q) rights) old all i
+-- ---- the table of `carriers`
+pub turned : (carried all : List ℕ) → all ≡ tabulate (λ q. number (λ k. has (get_or carried k 0) q) rights) rights 0
     → (g : ℕ) (l : List ℕ) → carried ≡ carried_of g l → all ≡ carriers_of g l
 unfolding carried_of carriers_of
-turned old carried all i h K g l e =
-    filling_end rights (λ q. number (λ k. has (get_or carried k 0) q) rights) old all i K (λ k a b. absurd (omega arith))
+turned carried all d g l e =
+    d
     ∙ tabulate_same (λ q. number (λ k. has (get_or carried k 0) q) rights) (λ q. number (λ k. reaches g l k q) rights) rights 0
     (λ q _ m. number_same (λ k. has (get_or carried k 0) q) (λ k. reaches g l k q) rights
     (λ k n. ap (λ (x : List ℕ). has (get_or x k 0) q) e ∙ ap (λ (x : ℕ). has x q) (get_or_table rights (λ i. number (reaches g l i) rights) k n) ∙ has_number (reaches g l k) rights q (omega arith)))

@@ -5,37 +5,32 @@
 ghost use Rattle.std.specs.Prelude.{◌≡◌, List, ℕ, suc, ◌≤◌, ◌<◌, get_or};
 ghost use Rattle.rights.specs.Rights.{has, number};
 ghost use Rattle.protection.specs.Limits.{rights};
+ghost use Rattle.refusals.specs.Numbers.{code};
 ghost use Rattle.protection.specs.Carrying.{chained};
 ghost use Rattle.carries.specs.Bytes.{carried_in};
 ghost use Rattle.carries.specs.Refusals.{carries_refusal};
 ghost use Rattle.carries.specs.Closed.{ends_of, carried_of, carriers_of};
 
 use matrix::Matrix;
+use refusals::Refusal;
 use rights::Set;
 
-// The refusal of what rights carry, or 0.
-pub fn refusal(g: u8, carries: [Set; Matrix::RIGHTS as usize]) -> u8
+// Of g rights none carries a further one.
+pub fn check(g: u8, carries: [Set; Matrix::RIGHTS as usize]) -> Result<(), Refusal>
     requires { g ≤ rights }
-    ensures { result ≡ carries_refusal g carries }
+    ensures { code result ≡ carries_refusal g carries }
 {
-    for right in 0..g {
-        if !rights::none_from(carries[right as usize], g) {
-            return 44;
-        }
+    if !(0..g).all(|right| rights::none_from(carries[right as usize], g)) {
+        return Err(Refusal::CarriedRights);
     }
-    0
+    Ok(())
 }
 
 // Each right alone: the ends of chains of no link.
 fn alone() -> [Set; Matrix::RIGHTS as usize]
     ensures { (g : ℕ) (l : List ℕ) → result ≡ ends_of g l 0 }
 {
-    let mut all = [rights::NONE; Matrix::RIGHTS as usize];
-    for i in 0..Matrix::RIGHTS {
-        let set = rights::with_right(rights::NONE, i);
-        all[i as usize] = set;
-    }
-    all
+    std::array::from_fn(|i| rights::with_right(rights::NONE, i as u8))
 }
 
 // The ends of the chains from right i that have one link more than those whose ends are given.
@@ -52,8 +47,7 @@ fn further(
     let mut set = rights::with_right(rights::NONE, i);
     for j in 0..g {
         if rights::holds(links, j) {
-            let more = set | ends[j as usize];
-            set = more;
+            set |= ends[j as usize];
         }
     }
     set
@@ -69,8 +63,7 @@ fn one_more(
 {
     let mut next = ends;
     for i in 0..g {
-        let set = further(g, carries, ends, i);
-        next[i as usize] = set;
+        next[i as usize] = further(g, carries, ends, i);
     }
     next
 }
@@ -96,8 +89,7 @@ fn holders(sets: [Set; Matrix::RIGHTS as usize], q: u8) -> Set
     let mut set = rights::NONE;
     for i in 0..Matrix::RIGHTS {
         if rights::holds(sets[i as usize], q) {
-            let more = rights::with_right(set, i);
-            set = more;
+            set = rights::with_right(set, i);
         }
     }
     set
@@ -107,10 +99,5 @@ fn holders(sets: [Set; Matrix::RIGHTS as usize], q: u8) -> Set
 pub fn carriers(carried: [Set; Matrix::RIGHTS as usize]) -> [Set; Matrix::RIGHTS as usize]
     ensures { (g : ℕ) (l : List ℕ) → carried ≡ carried_of g l → result ≡ carriers_of g l }
 {
-    let mut all = [rights::NONE; Matrix::RIGHTS as usize];
-    for q in 0..Matrix::RIGHTS {
-        let set = holders(carried, q);
-        all[q as usize] = set;
-    }
-    all
+    std::array::from_fn(|q| holders(carried, q as u8))
 }

@@ -1,9 +1,8 @@
 -- Rights that carry others (document 02, C-19): conditions met by what a cell's rights carry; and what looks at the cell's own bits.
 use Rattle.std.specs.Prelude.{ℕ, List, [], ◌∷◌, ◌++◌, replicate}
-use Rattle.trace.specs.declared.Replay.{Replay}
-use Rattle.trace.specs.declared.Replay.TheVariants.{NoLeak, Leak, Refused as RefusedAt}
-use Rattle.safety.specs.declared.Judgement.TheVariants.{Safe, Unsafe}
-use Rattle.needs.specs.declared.Need.TheVariants.{Held, Never}
+use Rattle.trace.specs.Replays.{Replay, NoLeak, Leak, Refused as RefusedAt}
+use Rattle.safety.specs.Demand3.{Safe, Unsafe}
+use Rattle.needs.specs.Needed.{Held, Never}
 use Rattle.protection.specs.Command.{Call}
 use Rattle.rows.specs.Build.{an_object, a_subject, cell_with, if_in, enter, delete, create_subject, rule_bytes, on_name, on_cell, entering, file_carrying, call, trace, text}
 use Rattle.rows.specs.Cases.{Case, runs, replays, prints, Row, row}

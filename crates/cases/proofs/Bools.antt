@@ -70,3 +70,13 @@ and_second r s b c d e t = let z : b ≡ true = sym d ∙ t in rw z e
 
 pub and_first : (r b c : Bool) → r ≡ b → r ≡ false → false ≡ b && c
 and_first r b c d t = let z : b ≡ false = sym d ∙ t in rw z
+
+-- the same of what the code answers as `a && b`, where the first part failed; and of `a || b`
+pub and_fails : (r b c : Bool) → r ≡ b → r ≡ false → r ≡ b && c
+and_fails r b c d t = t ∙ and_first r b c d t
+
+pub or_first : (r b c : Bool) → r ≡ b → r ≡ true → r ≡ b || c
+or_first r b c d t = let z : b ≡ true = sym d ∙ t in rw z t
+
+pub or_second : (r s b c : Bool) → r ≡ b → s ≡ c → r ≡ false → s ≡ b || c
+or_second r s b c d e t = let z : b ≡ false = sym d ∙ t in rw z e

@@ -3,3 +3,5 @@ pub mod Loops
 pub mod Bools
 pub mod Lists
 pub mod Filling
+pub mod Slices
+pub mod FromFn

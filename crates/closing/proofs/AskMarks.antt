@@ -25,14 +25,14 @@ use Rattle.policy.specs.Fits.{PolicyFits}
 use Rattle.policy.specs.declared.Policy.{Policy}
 use Rattle.closing.specs.Asks.{side_of, on_side, first_of, second_of, Asks, AsksMarked, AskedBy}
 
--- ---- for `side`
-pub side_first : (x y b : ℕ) → b ≡ x → 0 ≡ side_of x y b
+-- ---- the side that a parameter is on
+side_first : (x y b : ℕ) → b ≡ x → 0 ≡ side_of x y b
 side_first x y b e = rw (eq-eqb b x e)
 
-pub side_second : (x y b : ℕ) → (b ≡ x → ⊥) → b ≡ y → 1 ≡ side_of x y b
+side_second : (x y b : ℕ) → (b ≡ x → ⊥) → b ≡ y → 1 ≡ side_of x y b
 side_second x y b n e = let u = ne_eqb b x n in let v = eq-eqb b y e in rw (u, v)
 
-pub side_neither : (x y b : ℕ) → (b ≡ x → ⊥) → (b ≡ y → ⊥) → 2 ≡ side_of x y b
+side_neither : (x y b : ℕ) → (b ≡ x → ⊥) → (b ≡ y → ⊥) → 2 ≡ side_of x y b
 side_neither x y b n e = let u = ne_eqb b x n in let v = ne_eqb b y e in rw (u, v)
 
 side_is : (x y b a : ℕ) → a ≡ side_of x y b → a < 2 → b ≡ on_side a x y
@@ -51,11 +51,14 @@ module _ (l : List ℕ) (i q a b : ℕ) where
   pub mark_both : a < 2 → b < 2 → i < commands → set l (rights * (2 * a + b) + q) (bit_or (get_or l (rights * (2 * a + b) + q) 0) ((1 * 2 ^ i) % 2 ^ 32)) ≡ on (ltb a 2) (ltb b 2)
   mark_both la lb li = mark_is l (rights * (2 * a + b) + q) i li ∙ ap₂ on (sym (lt-ltb a 2 la)) (sym (lt-ltb b 2 lb))
 
-  pub mark_first : a < 2 → 2 ≤ b → l ≡ on (ltb a 2) (ltb b 2)
+  mark_first : a < 2 → 2 ≤ b → l ≡ on (ltb a 2) (ltb b 2)
   mark_first la lb = ap₂ on (sym (lt-ltb a 2 la)) (sym (le-ltb b 2 lb))
 
-  pub mark_neither : 2 ≤ a → l ≡ on (ltb a 2) (ltb b 2)
+  mark_neither : 2 ≤ a → l ≡ on (ltb a 2) (ltb b 2)
   mark_neither la = ap (λ (u : Bool). on u (ltb b 2)) (sym (le-ltb a 2 la))
+
+  pub mark_none : (a < 2 × 2 ≤ b) ⊎ (2 ≤ a) → l ≡ on (ltb a 2) (ltb b 2)
+  mark_none = ⊎_elim (λ (h : a < 2 × 2 ≤ b). mark_first h.0 h.1) (λ (h : 2 ≤ a). mark_neither h)
 
 -- ---- the conditions of one command
 pub record Marking (c : Command) (i : ℕ) (before : List ℕ) (n x y j : ℕ) (now : List ℕ) : Type 0 where
@@ -148,16 +151,14 @@ module _ (c : Command) (i : ℕ) (before : List ℕ) (n x y j : ℕ) (now : List
           go (no la) g = same (e ∙ sym (mark_neither now i q a b (omega arith)))
 
 -- ---- the commands
-pub record Asking (p : Policy) (count i : ℕ) (asks : List ℕ) : Type 0 where
+pub record Asking (p : Policy) (i : ℕ) (asks : List ℕ) : Type 0 where
   pub fits : PolicyFits p
-  pub number : count ≡ p.commands
-  pub within : i ≤ count
+  pub within : i ≤ p.commands
   pub asked : AskedBy p asks
 
-pub asking_start : (p : Policy) (count : ℕ) → PolicyFits p → count ≡ p.commands → Asking p count 0 (replicate (4 * rights) 0)
-asking_start p count F e = record {
+pub asking_start : (p : Policy) → PolicyFits p → Asking p 0 (replicate (4 * rights) 0)
+asking_start p F = record {
   fits = F;
-  number = e;
   within = omega arith;
   asked = record { length_is = length-replicate {A = ℕ} (4 * rights) 0; says = λ e i l t. absurd (clash (has (get_or (replicate {A = ℕ} (4 * rights) 0) e 0) i) (zeros e i l) t) };
 }
@@ -168,25 +169,24 @@ asking_start p count F e = record {
     clash : (b : Bool) → b ≡ false → b ≡ true → ⊥
     clash b x y = let z : ◌≡◌ {A = Bool} true false = cc in let w : ◌≡◌ {A = ℕ} 0 1 = cc in omega arith
 
-module _ (p : Policy) (count i : ℕ) (asks : List ℕ) (K : Asking p count i asks) where
+module _ (p : Policy) (i : ℕ) (asks : List ℕ) (K : Asking p i asks) where
   pub asking_end : AskedBy p asks
   asking_end = K.asked
 
   pub asking_length : length asks ≡ 4 * rights
   asking_length = K.asked.length_is
 
-  module _ (l : i < count) where
+  module _ (l : i < p.commands) where
     pub asking_number : i < 32
-    asking_number = omega (arith, K.number, K.fits.few_commands)
+    asking_number = omega (arith, K.fits.few_commands)
 
     module _ (c : Command) (e : c ≡ get_or p.command i missing) where
       pub asking_fits : Fits rights c
-      asking_fits = subst (Fits rights) (sym e) (fits_wider p.rights rights (get_or p.command i missing) K.fits.few_rights (K.fits.commands_fit i (rw K.number at l)))
+      asking_fits = subst (Fits rights) (sym e) (fits_wider p.rights rights (get_or p.command i missing) K.fits.few_rights (K.fits.commands_fit i l))
 
-      pub asking_more : (new : List ℕ) → AsksMarked c i asks new → Asking p count (i + 1) new
+      pub asking_more : (new : List ℕ) → AsksMarked c i asks new → Asking p (i + 1) new
       asking_more new M = record {
         fits = K.fits;
-        number = K.number;
         within = omega arith;
         asked = record {
           length_is = M.length_is;

@@ -28,11 +28,9 @@ use Rattle.matrix.specs.declared.Matrix.{Matrix}
 use Rattle.masks.proofs.Digits.{has_and, has_or, has_not}
 use Rattle.search.specs.Narrowing.{Says}
 use Rattle.commands.specs.Contents.{missing, condition_of, operation_at, meaning}
-use Rattle.commands.specs.Steps.{step_read}
+use Rattle.commands.specs.Steps.{StepRead, Enter, Delete, CreateSubject, CreateObject, DestroySubject, DestroyObject, Refused, step_read}
 use Rattle.commands.proofs.Reading.{model_by}
 use Rattle.commands.specs.declared.Command.{Command}
-use Rattle.commands.specs.declared.StepRead.{StepRead}
-use Rattle.commands.specs.declared.StepRead.TheVariants.{Enter, Delete, CreateSubject, CreateObject, DestroySubject, DestroyObject, Refused}
 use Rattle.queries.specs.Useful.{doable, names_of_place, touched_by, Tried}
 use Rattle.queries.specs.declared.Touch.{Touch}
 use Rattle.queries.proofs.Goodness.{doable_holds, hold-all}

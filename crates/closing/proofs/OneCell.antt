@@ -1,17 +1,16 @@
 -- The closing search at one cell. Assumes nothing.
-use Prim.Native.Nat.{ℕ, ◌-◌, ◌*◌, ◌/◌, ◌%◌, ◌<◌}
+use Prim.Native.Nat.{ℕ, ◌*◌, ◌/◌, ◌%◌, ◌<◌}
 use mathlib.Core.Path.{◌≡◌, refl, sym, ap, ap₂, ◌∙◌}
-use mathlib.Core.Bool.{Bool, true, false, not, ◌&&◌}
-use mathlib.Core.List.{List, []}
+use mathlib.Core.Bool.{Bool, true, false, not}
+use mathlib.Core.List.{List, [], ◌∷◌}
 use mathlib.Core.Option.{Option, none, some}
+use Rattle.std.specs.Prelude.{Option as Answered, Some, None, is_some}
 use native.Mathlib.Omega.{arith}
-use borrow.Author.Tests.{not-true}
-use Rattle.cases.specs.Cases.{pick}
 use Rattle.protection.specs.Limits.{names}
 use Rattle.protection.specs.State.{State}
-use Rattle.protection.specs.Command.{Call, actuals}
+use Rattle.protection.specs.Command.{Call}
 use Rattle.protection.specs.Execution.{take_out}
-use Rattle.protection.specs.Judge.{four_of, both, is_empty}
+use Rattle.protection.specs.Judge.{both, is_empty}
 use Rattle.matrix.specs.Matrices.{state_of}
 use Rattle.matrix.specs.declared.Matrix.{Matrix}
 use Rattle.masks.specs.declared.Tables.{Tables}
@@ -20,9 +19,9 @@ use Rattle.queries.specs.declared.Touch.{Touch}
 use Rattle.policy.specs.Contents.{system_of}
 use Rattle.policy.specs.declared.Policy.{Policy}
 use Rattle.closing.specs.Asks.{LackingAt, left_in}
-use Rattle.calls.specs.Calls.{found_call, Covers, first_touching, Lookable}
+use Rattle.calls.specs.Calls.{call_of, Covers, first_touching, Lookable}
 use Rattle.closing.specs.Closing.{pair_of, both_at, SoughtIn}
-use Rattle.calls.specs.declared.Found.{Found}
+use Rattle.calls.specs.declared.Call.{Call as CodeCall}
 use Rattle.closing.specs.declared.Pair.{Pair}
 use Rattle.closing.specs.declared.Sought.{Sought}
 use Rattle.calls.proofs.Looking.{none_covered}
@@ -57,35 +56,24 @@ module _ (p : Policy) (w : Sought) (asks : List ℕ) (m : Matrix) (t : Tables) (
       covers_returned = left_covers p K.closable.fits K.closable.single w.name K.name m less (λ u v q e. out_lacks (system_of p) st w.right (c / names) (c % names) u v q e) asks K.asked_by
           (step_at true) lacking L w.returning left K.returned_by E
 
-      pub cell_unreturned : left ≡ 0 → (z : Pair) → pair_of z ≡ [] → pair_of z ≡ both_at (system_of p) w st c
+      pub cell_unreturned : left ≡ 0 → [] ≡ both_at (system_of p) w st c
       unfolding both_at first_touching
-      cell_unreturned e z d = d ∙ sym (ap (both (first_touching (system_of p) st (step_at false) w.name)) (none_covered p less w.name (step_at true) left covers_returned e)
+      cell_unreturned e = sym (ap (both (first_touching (system_of p) st (step_at false) w.name)) (none_covered p less w.name (step_at true) left covers_returned e)
           ∙ both_none (first_touching (system_of p) st (step_at false) w.name))
 
-  module _ (x : Found) (u : found_call x ≡ first_touching (system_of p) st (step_at false) w.name) where
-    pub cell_untaken : not x.found ≡ true → (z : Pair) → pair_of z ≡ [] → pair_of z ≡ both_at (system_of p) w st c
-    unfolding both_at first_touching
-    cell_untaken f z e =
-        let d : none ≡ found_call x = rw (not-true x.found f) in
-        e ∙ ap (λ (y : Option Call). both y (first_touching (system_of p) less (step_at true) w.name)) (d ∙ u)
+  pub cell_untaken : none ≡ first_touching (system_of p) st (step_at false) w.name → (z : Answered Pair) → z ≡ None → pair_of z ≡ both_at (system_of p) w st c
+  unfolding both_at first_touching
+  cell_untaken u z e = ap pair_of e ∙ ap (λ (y : Option Call). both y (first_touching (system_of p) less (step_at true) w.name)) u
 
-    pub cell_both : (y : Found) → found_call y ≡ first_touching (system_of p) less (step_at true) w.name → (z : Pair) → z ≡ record { taken = x; returned = y } → pair_of z ≡ both_at (system_of p) w st c
-    unfolding both_at first_touching
-    cell_both y v z d = ap pair_of d ∙ ap₂ both u v
+  pub cell_not_back : none ≡ first_touching (system_of p) less (step_at true) w.name → (z : Answered Pair) → z ≡ None → pair_of z ≡ both_at (system_of p) w st c
+  unfolding both_at first_touching
+  cell_not_back v z e = ap pair_of e ∙ sym (both_none (first_touching (system_of p) st (step_at false) w.name)) ∙ ap (both (first_touching (system_of p) st (step_at false) w.name)) v
 
-pub no_pair_is : (x y : Found) → found_call x ≡ none → found_call y ≡ none → (z : Pair) → z ≡ record { taken = x; returned = y } → pair_of z ≡ []
-no_pair_is x y u v z d = ap pair_of d ∙ ap₂ both u v
+  pub cell_both : (a b : CodeCall) → some (call_of a) ≡ first_touching (system_of p) st (step_at false) w.name → some (call_of b) ≡ first_touching (system_of p) less (step_at true) w.name
+      → call_of a ∷ call_of b ∷ [] ≡ both_at (system_of p) w st c
+  unfolding both_at first_touching
+  cell_both a b u v = ap₂ both u v
 
-pub complete_is : (z : Pair) (b : Bool) → b ≡ z.taken.found && z.returned.found → b ≡ not (is_empty (pair_of z))
-complete_is z b e = e ∙ go z.taken.found z.returned.found
-  where
-    x : Call
-    x = four_of z.taken.rule z.taken.actuals
-
-    y : Call
-    y = four_of z.returned.rule z.returned.actuals
-
-    go : (u v : Bool) → u && v ≡ not (is_empty (both (pick u (some x) none) (pick v (some y) none)))
-    go true true = refl
-    go true false = refl
-    go false v = refl
+pub complete_is : (z : Answered Pair) → not (is_empty (pair_of z)) ≡ is_some z
+complete_is None = refl
+complete_is (Some z) = refl

@@ -3,7 +3,8 @@ use Prim.Native.Nat.{ℕ, ◌+◌, ◌*◌, ◌-◌, ◌/◌, ◌%◌, ◌≤◌
 use mathlib.Core.Path.{◌≡◌, refl, sym, ap, ◌∙◌}
 use mathlib.Core.Bool.{Bool, true, false, not}
 use mathlib.Core.List.{List, []}
-use mathlib.Core.Option.{Option, none}
+use mathlib.Core.Option.{Option}
+use Rattle.std.specs.Prelude.{Option as Answered, None, is_some}
 use native.Mathlib.Omega.{arith}
 use borrow.Author.Tests.{lt-ltb, le-ltb}
 use lib.Dec.{T, ltb}
@@ -35,7 +36,7 @@ use Rattle.closing.specs.Closing.{pair_of, ConcernedBy, both_at, FirstPair, Soug
 use Rattle.closing.specs.declared.Pair.{Pair}
 use Rattle.closing.specs.declared.Sought.{Sought}
 use Rattle.calls.proofs.Looking.{none_covered}
-use Rattle.closing.proofs.OneCell.{both_none}
+use Rattle.closing.proofs.OneCell.{both_none, complete_is}
 use Rattle.closing.proofs.PassedBy.{concerned_covers}
 
 -- in cells as an accepted file has them, the set tells whether the right is there: a cell without row or column is 0
@@ -84,7 +85,7 @@ module _ (p : Policy) (w : Sought) (m : Matrix) where
       pairs n c = elim (ltb c 1024) [ true ↦ pair_by n c | false ↦ [] ]
 
   -- what is the first pair is the closing search's
-  first_found : (z : Pair) → pair_of z ≡ chosen first_pair → FirstPair p w (state_of m) z
+  first_found : (z : Answered Pair) → pair_of z ≡ chosen first_pair → FirstPair p w (state_of m) z
   first_found z e = record { of = λ R d. e ∙ closing_is R d }
 
   chosen_none : (c : ℕ) → 1024 ≤ c → c ≡ first_pair → [] ≡ chosen first_pair
@@ -103,41 +104,37 @@ module _ (p : Policy) (w : Sought) (m : Matrix) where
   pair-by c b e = ap (λ (u : Bool). elim u [ true ↦ both_at S w (state_of m) c | false ↦ [] ]) e
 
   -- ---- the loop
-  module _ (asks : List ℕ) (t : Tables) (start : Matrix) where
+  module _ (asks : List ℕ) (t : Tables) where
     -- what is left to look through, from cell c on, is all
     pub record Cells (c : ℕ) : Type 0 where
       pub sought : SoughtIn p w asks m t
-      pub start_is : start ≡ p.matrix
       pub within : c ≤ 1024
       pub rest : first_in has_pair (1024 - c) c ≡ first_pair
 
-    pub cells_start : SoughtIn p w asks m t → start ≡ p.matrix → Cells 0
-    cells_start K d = record { sought = K; start_is = d; within = omega arith; rest = refl }
+    pub cells_start : SoughtIn p w asks m t → Cells 0
+    cells_start K = record { sought = K; within = omega arith; rest = refl }
 
     module _ (c : ℕ) (K : Cells c) where
-      pub cells_end : 1024 ≤ c → (z : Pair) → pair_of z ≡ [] → FirstPair p w (state_of m) z
-      cells_end l z e = first_found z (e ∙ chosen_none c l (first_end has_pair 1024 first_pair c l K.rest))
+      pub cells_end : 1024 ≤ c → FirstPair p w (state_of m) None
+      cells_end l = first_found None (chosen_none c l (first_end has_pair 1024 first_pair c l K.rest))
 
       pub cells_right : r < width
       cells_right = omega (arith, K.sought.closable.right, K.sought.closable.fits.few_rights)
 
       module _ (l : c < 1024) where
         onward : has_pair c ≡ false → Cells (c + 1)
-        onward h = record { sought = K.sought; start_is = K.start_is; within = omega arith; rest = first_next has_pair 1024 first_pair c h l K.rest }
+        onward h = record { sought = K.sought; within = omega arith; rest = first_next has_pair 1024 first_pair c h l K.rest }
 
-        module _ (b : Bool) (d : b ≡ has (get_or start.cells c 0) r) where
-          byte : b ≡ has (get_or p.matrix.cells c 0) r
-          byte = d ∙ ap (λ (z : Matrix). has (get_or z.cells c 0) r) K.start_is
-
+        module _ (b : Bool) (d : b ≡ has (get_or p.matrix.cells c 0) r) where
           pub cells_lacks : b ≡ false → Cells (c + 1)
-          cells_lacks f = onward (ap (λ (x : List Call). not (is_empty x)) (pair-by c false (start_cell K.sought.closable.fits c l b byte ∙ f)))
+          cells_lacks f = onward (ap (λ (x : List Call). not (is_empty x)) (pair-by c false (start_cell K.sought.closable.fits c l b d ∙ f)))
 
-          module _ (f : b ≡ true) (z : Pair) (e : pair_of z ≡ both_at S w (state_of m) c) (u : Bool) (g : u ≡ not (is_empty (pair_of z))) where
+          module _ (f : b ≡ true) (z : Answered Pair) (e : pair_of z ≡ both_at S w (state_of m) c) (u : Bool) (g : u ≡ is_some z) where
             this : pair_of z ≡ pair_for c
-            this = e ∙ sym (pair-by c true (start_cell K.sought.closable.fits c l b byte ∙ f))
+            this = e ∙ sym (pair-by c true (start_cell K.sought.closable.fits c l b d ∙ f))
 
             has_is : has_pair c ≡ u
-            has_is = ap (λ (x : List Call). not (is_empty x)) (sym this) ∙ sym g
+            has_is = ap (λ (x : List Call). not (is_empty x)) (sym this) ∙ complete_is z ∙ sym g
 
             pub cells_found : u ≡ true → FirstPair p w (state_of m) z
             cells_found h = first_found z (this ∙ chosen_here c l (first_here has_pair 1024 first_pair c (has_is ∙ h) l K.rest))
@@ -169,7 +166,7 @@ module _ (p : Policy) (F : PolicyFits p) (single : SingleSteps p) (reserved : �
       asked_by = A;
     }
 
-    pub sought_found : (z : Pair) → FirstPair p sought (state_of m) z → pair_of z ≡ closing (system_of p) R r (state_of p.matrix) (state_of m)
+    pub sought_found : (z : Answered Pair) → FirstPair p sought (state_of m) z → pair_of z ≡ closing (system_of p) R r (state_of p.matrix) (state_of m)
     sought_found z d = d.of R name_is
 
   -- without a command that deletes the right, or one that enters it
@@ -189,13 +186,13 @@ module _ (p : Policy) (F : PolicyFits p) (single : SingleSteps p) (reserved : �
       none c true e = ap (λ (x : List Call). not (is_empty x)) (pair-by p any m c true e ∙ h c)
       none c false e = ap (λ (x : List Call). not (is_empty x)) (pair-by p any m c false e)
 
-  pub none_taken : (which : ℕ) → ConcernedBy p false r which → which ≡ 0 → (z : Pair) → pair_of z ≡ [] → pair_of z ≡ closing (system_of p) R r (state_of p.matrix) (state_of m)
+  pub none_taken : (which : ℕ) → ConcernedBy p false r which → which ≡ 0 → [] ≡ closing (system_of p) R r (state_of p.matrix) (state_of m)
   unfolding both_at first_touching
-  none_taken which W e z d = d ∙ no_pairs (λ c. ap (λ (x : Option Call). both x (first_touching (system_of p) (less c) (step_at c true) free))
+  none_taken which W e = no_pairs (λ c. ap (λ (x : Option Call). both x (first_touching (system_of p) (less c) (step_at c true) free))
       (none_covered p (state_of m) free (step_at c false) which (concerned_covers p F single free (lowest_small R (state_of m)) (step_at c false) (state_of m) which W) e))
 
-  pub none_returned : (which : ℕ) → ConcernedBy p true r which → which ≡ 0 → (z : Pair) → pair_of z ≡ [] → pair_of z ≡ closing (system_of p) R r (state_of p.matrix) (state_of m)
+  pub none_returned : (which : ℕ) → ConcernedBy p true r which → which ≡ 0 → [] ≡ closing (system_of p) R r (state_of p.matrix) (state_of m)
   unfolding both_at first_touching
-  none_returned which W e z d = d ∙ no_pairs (λ c. ap (both (first_touching (system_of p) (state_of m) (step_at c false) free))
+  none_returned which W e = no_pairs (λ c. ap (both (first_touching (system_of p) (state_of m) (step_at c false) free))
       (none_covered p (less c) free (step_at c true) which (concerned_covers p F single free (lowest_small R (state_of m)) (step_at c true) (less c) which W) e)
       ∙ both_none (first_touching (system_of p) (state_of m) (step_at c false) free))

@@ -1,5 +1,5 @@
 -- What commands ask of the four cells of two names s and o, those of their operation's parameters: number 0 is (s, s), 1 is (s, o), 2 is (o, s), 3 is (o, o).
-use Rattle.std.specs.Prelude.{ℕ, ◌+◌, ◌*◌, ◌/◌, ◌%◌, ◌<◌, ◌≡◌, ◌⊎◌, Bool, true, false, not, ◌&&◌, List, eqb, length, get_or}
+use Rattle.std.specs.Prelude.{ℕ, ◌+◌, ◌*◌, ◌/◌, ◌%◌, ◌<◌, ◌≡◌, ◌⊎◌, Bool, true, not, ◌&&◌, List, eqb, length, get_or}
 use Rattle.std.specs.Int.Bits.{bit_and}
 use Rattle.cases.specs.Cases.{pick}
 use Rattle.rights.specs.Rights.{has}

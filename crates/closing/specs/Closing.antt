@@ -1,5 +1,5 @@
 -- The closing search at one cell, and what its functions answer.
-use Rattle.std.specs.Prelude.{ℕ, ◌/◌, ◌%◌, ◌≤◌, ◌<◌, ◌≡◌, Bool, true, false, List, eqb, get_or}
+use Rattle.std.specs.Prelude.{ℕ, ◌/◌, ◌%◌, ◌≤◌, ◌<◌, ◌≡◌, Bool, true, false, List, [], ◌∷◌, eqb, get_or, Option, Some, None}
 use Rattle.cases.specs.Cases.{pick}
 use Rattle.rights.specs.Rights.{has}
 use Rattle.protection.specs.Limits.{names}
@@ -10,18 +10,18 @@ use Rattle.matrix.specs.Matrices.{state_of}
 use Rattle.matrix.specs.declared.Matrix.{Matrix}
 use Rattle.masks.specs.declared.Tables.{Tables}
 use Rattle.commands.specs.Contents.{missing, operation_at}
-use Rattle.commands.specs.declared.StepRead.{StepRead}
-use Rattle.commands.specs.declared.StepRead.TheVariants.{Enter, Delete, CreateSubject, CreateObject, DestroySubject, DestroyObject, Refused}
+use Rattle.commands.specs.Steps.{StepRead, Enter, Delete, CreateSubject, CreateObject, DestroySubject, DestroyObject, Refused}
 use Rattle.policy.specs.Contents.{system_of}
 use Rattle.policy.specs.declared.Policy.{Policy}
-use Rattle.calls.specs.Calls.{found_call, Closable}
+use Rattle.calls.specs.Calls.{call_of, Closable}
 use Rattle.closing.specs.declared.Pair.{Pair}
 use Rattle.closing.specs.declared.Sought.{Sought}
 use Rattle.closing.specs.Asks.{AskedBy}
 
--- ---- the struct `Pair`
-abbrev pub pair_of : Pair → List Call
-pair_of x = both (found_call x.taken) (found_call x.returned)
+-- ---- the struct `Pair`: two steps that were found, or nothing
+abbrev pub pair_of : Option Pair → List Call
+pair_of (Some x) = call_of x.taken ∷ call_of x.returned ∷ []
+pair_of None = []
 
 -- ---- which commands are looked through
 -- the operation enters r into some cell, or deletes it from one
@@ -47,7 +47,7 @@ unfoldable pub both_at : System → Sought → State → ℕ → List Call
 both_at S w m c = both (first_call (takes S m w.right (c / names) (c % names)) w.name 0 S.commands) (first_call (returns S m w.right (c / names) (c % names)) w.name 0 S.commands)
 
 -- those of the closing search, whichever names a create may not take, if the one sought is the lowest that it may
-pub record FirstPair (p : Policy) (w : Sought) (m : State) (x : Pair) : Type 0 where
+pub record FirstPair (p : Policy) (w : Sought) (m : State) (x : Option Pair) : Type 0 where
   pub of : (R : ℕ → Bool) → w.name ≡ lowest_free R m → pair_of x ≡ closing (system_of p) R w.right (state_of p.matrix) m
 
 -- ---- what is asked, for every cell

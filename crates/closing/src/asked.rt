@@ -32,11 +32,8 @@ fn mark(asks: &mut [u32; 4 * Matrix::RIGHTS as usize], i: usize, q: u8, a: usize
     requires { (length asks.old ≡ 4 * rights) × (i < commands) × (q < rights) }
     ensures { asks.new ≡ pick (ltb a 2 && ltb b 2) (raised asks.old (rights * (2 * a + b) + q) i) asks.old }
 {
-    if a < 2 {
-        if b < 2 {
-            let at = Matrix::RIGHTS as usize * (2 * a + b) + q as usize;
-            asks[at] = asks[at] | (1u32 << i);
-        }
+    if a < 2 && b < 2 {
+        asks[Matrix::RIGHTS as usize * (2 * a + b) + q as usize] |= 1u32 << i;
     }
 }
 
@@ -57,23 +54,21 @@ fn mark_asks(asks: &mut [u32; 4 * Matrix::RIGHTS as usize], c: Command, i: usize
 }
 
 // Digit i of element rights × k + q is set if command i asks for right q in cell k of the four.
-pub fn asked_by(p: Policy) -> [u32; 4 * Matrix::RIGHTS as usize]
-    requires { PolicyFits p }
-    ensures { AskedBy p result }
+pub fn asked_by(p: &Policy) -> [u32; 4 * Matrix::RIGHTS as usize]
+    requires { PolicyFits p.now }
+    ensures { AskedBy p.now result }
 {
     let mut asks = [0u32; 4 * Matrix::RIGHTS as usize];
-    let count = p.commands as usize;
-    for i in 0..count {
-        let c = p.command[i];
-        mark_asks(&mut asks, c, i);
+    for i in 0..p.commands as usize {
+        mark_asks(&mut asks, p.command[i], i);
     }
     asks
 }
 
 // The commands that ask in cell k of the four for a right that no right in the cell, which is the set, carries.
-fn lacking_in<'a>(
-    asks: &'a [u32; 4 * Matrix::RIGHTS as usize],
-    carriers: &'a [Set; Matrix::RIGHTS as usize],
+fn lacking_in(
+    asks: &[u32; 4 * Matrix::RIGHTS as usize],
+    carriers: &[Set; Matrix::RIGHTS as usize],
     k: usize,
     set: Set,
 ) -> u32
@@ -83,17 +78,17 @@ fn lacking_in<'a>(
     let mut mask = 0u32;
     for q in 0..Matrix::RIGHTS as usize {
         if set & carriers[q] == 0 {
-            mask = mask | asks[Matrix::RIGHTS as usize * k + q];
+            mask |= asks[Matrix::RIGHTS as usize * k + q];
         }
     }
     mask
 }
 
 // Commands that ask in one of the four cells of s and o for a right that no right in it carries: all of them, or as many as leave none of the mask `which`.
-pub fn lacking_at<'a>(
-    asks: &'a [u32; 4 * Matrix::RIGHTS as usize],
-    carriers: &'a [Set; Matrix::RIGHTS as usize],
-    cells: &'a [Set; Matrix::NAMES * Matrix::NAMES],
+pub fn lacking_at(
+    asks: &[u32; 4 * Matrix::RIGHTS as usize],
+    carriers: &[Set; Matrix::RIGHTS as usize],
+    cells: &[Set; Matrix::NAMES * Matrix::NAMES],
     which: u32,
     s: usize,
     o: usize,

@@ -1,14 +1,14 @@
 -- The command that the reader hands out fits. Assumes nothing.
-use Prim.Native.Nat.{ℕ, zero, suc, ◌+◌, ◌*◌, ◌-◌, ◌≤◌, ◌<◌}
-use mathlib.Core.Path.{◌≡◌, refl, sym, ap, ◌∙◌, subst}
+use Prim.Native.Nat.{ℕ, ◌+◌, ◌*◌, ◌-◌, ◌≤◌, ◌<◌}
+use mathlib.Core.Path.{◌≡◌, refl, ap, ◌∙◌}
 use mathlib.Core.Bool.{Bool, true, false}
-use mathlib.Core.List.{List, ◌++◌}
+use mathlib.Core.List.{List}
 use native.Mathlib.Omega.{arith}
-use borrow.Author.Tests.{ltb-true, ltb-false, eqb-true}
-use lib.Dec.{eqb, ltb}
+use borrow.Author.Tests.{ltb-true}
+use lib.Dec.{ltb}
 use lib.ListN.{length, get_or, take, drop, replicate, length-drop, get_or-append}
 use lib.Seq.{length-take-le, get_or-take, get_or-drop}
-use Rattle.cases.specs.Cases.{pick, all}
+use Rattle.cases.specs.Cases.{pick}
 use Rattle.cases.proofs.Loops.{all_at}
 use Rattle.layout.specs.File.{byte}
 use Rattle.commands.specs.Steps.{step_read}

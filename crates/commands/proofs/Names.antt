@@ -1,5 +1,5 @@
 -- The parameters that a command names: the loops that look for one, and what is named. Assumes nothing.
-use Prim.Native.Nat.{ℕ, zero, suc, ◌+◌, ◌*◌, ◌-◌, ◌≤◌, ◌<◌}
+use Prim.Native.Nat.{ℕ, zero, suc, ◌+◌, ◌*◌, ◌<◌}
 use mathlib.Core.Path.{◌≡◌, refl, sym, ap, ◌∙◌, subst}
 use mathlib.Core.Bool.{Bool, true, false, ◌||◌}
 use mathlib.Core.List.{List, [], ◌∷◌, ◌++◌}
@@ -7,15 +7,14 @@ use native.Mathlib.Nat.{zero-add}
 use native.Mathlib.Omega.{arith}
 use lib.Dec.{T, eqb}
 use lib.ListN.{get_or}
-use Rattle.cases.specs.Cases.{tabulate}
-use Rattle.cases.proofs.Lists.{any_found, any_next, any_tabulate}
+use Rattle.cases.specs.Cases.{pick, any, tabulate}
+use Rattle.cases.proofs.Lists.{any_tabulate}
 use Rattle.cases.proofs.Bools.{or_left, or_right}
-use Rattle.protection.specs.Command.{Condition, Operation, in_conditions, in_operation, in_operations, named}
+use Rattle.protection.specs.Command.{Operation, in_conditions, in_operation, in_operations, named}
 use Rattle.commands.specs.Contents.{condition_of, operation_at, operations_of, operations_from, model_of, step_of, meaning}
 use Rattle.commands.specs.declared.Command.{Command}
 use Rattle.commands.specs.declared.Operation.{Operation as CodeOperation}
-use Rattle.commands.specs.declared.StepRead.{StepRead}
-use Rattle.commands.proofs.Reading.{operations-of, steps_more}
+use Rattle.commands.proofs.Reading.{operations-of}
 
 -- ---- steps one behind the other
 in_both : (b : ℕ) (xs ys : List Operation) → in_operations b (xs ++ ys) ≡ in_operations b xs || in_operations b ys
@@ -26,41 +25,28 @@ in_both b (x ∷ xs) ys = ap (λ (z : Bool). in_operation b x || z) (in_both b x
     or_assoc true v w = refl
     or_assoc false v w = refl
 
-steps_split : (c : Command) (b n j : ℕ) → j < n → in_operations b (operations_from c (n - j) j) ≡ in_operations b (operations_of (operation_at c j)) || in_operations b (operations_from c (n - (j + 1)) (j + 1))
-steps_split c b n j h = ap (in_operations b) (steps_more c n j h) ∙ in_both b (operations_of (operation_at c j)) (operations_from c (n - (j + 1)) (j + 1))
+or_pick : (x y : Bool) → x || y ≡ pick x true y
+or_pick true y = refl
+or_pick false y = refl
 
-module _ (c : Command) (b n j : ℕ) (whole r : Bool) where
-  abbrev here : Condition → Bool
-  here x = eqb b x.subject || eqb b x.object
+-- ---- that some condition or some step names it
+abbrev pub condition_names_it : Command → ℕ → ℕ → Bool
+condition_names_it c b j = eqb b (get_or c.condition (3 * j + 1) 0) || eqb b (get_or c.condition (3 * j + 2) 0)
 
-  pub condition_found : r ≡ eqb b (get_or c.condition (3 * j + 1) 0) || eqb b (get_or c.condition (3 * j + 2) 0) → r ≡ true → j < n
-      → in_conditions b (tabulate (condition_of c) (n - j) j) ≡ whole → true ≡ whole
-  condition_found d t h e = any_found (in_conditions b) here (λ x xs. refl) (condition_of c) n j whole r d t h e
+pub conditions_any : (c : Command) (b n j : ℕ) → any (condition_names_it c b) n j ≡ in_conditions b (tabulate (condition_of c) n j)
+unfolding any
+conditions_any c b zero j = refl
+conditions_any c b (suc n) j = ap (pick (condition_names_it c b j) true) (conditions_any c b n (suc j)) ∙ sym (or_pick (condition_names_it c b j) (in_conditions b (tabulate (condition_of c) n (suc j))))
 
-  pub condition_next : r ≡ eqb b (get_or c.condition (3 * j + 1) 0) || eqb b (get_or c.condition (3 * j + 2) 0) → r ≡ false → j < n
-      → in_conditions b (tabulate (condition_of c) (n - j) j) ≡ whole → in_conditions b (tabulate (condition_of c) (n - (j + 1)) (j + 1)) ≡ whole
-  condition_next d t h e = any_next (in_conditions b) here (λ x xs. refl) (condition_of c) n j whole r d t h e
+abbrev pub step_names_it : Command → ℕ → ℕ → Bool
+step_names_it c b j = in_operations b (operations_of (operation_at c j))
 
-  pub step_found : (s : StepRead) → s ≡ operation_at c j → r ≡ in_operations b (operations_of s) → r ≡ true → j < n → in_operations b (operations_from c (n - j) j) ≡ whole → true ≡ whole
-  step_found s o d t h e =
-      let z : in_operations b (operations_of (operation_at c j)) ≡ true = sym (d ∙ ap (λ (x : StepRead). in_operations b (operations_of x)) o) ∙ t in
-      sym (steps_split c b n j h ∙ rw z) ∙ e
-
-  pub step_next : (s : StepRead) → s ≡ operation_at c j → r ≡ in_operations b (operations_of s) → r ≡ false → j < n
-      → in_operations b (operations_from c (n - j) j) ≡ whole → in_operations b (operations_from c (n - (j + 1)) (j + 1)) ≡ whole
-  step_next s o d t h e =
-      let z : in_operations b (operations_of (operation_at c j)) ≡ false = sym (d ∙ ap (λ (x : StepRead). in_operations b (operations_of x)) o) ∙ t in
-      sym (steps_split c b n j h ∙ rw z) ∙ e
-
-pub conditions_end : (c : Command) (b n j : ℕ) (whole : Bool) → n ≤ j → in_conditions b (tabulate (condition_of c) (n - j) j) ≡ whole → false ≡ whole
-conditions_end c b n j whole h e = let z : n - j ≡ 0 = omega arith in rw z at e
-
-pub operations_end : (c : Command) (b n j : ℕ) (whole : Bool) → n ≤ j → in_operations b (operations_from c (n - j) j) ≡ whole → false ≡ whole
-operations_end c b n j whole h e = let z : n - j ≡ 0 = omega arith in rw z at e
-
--- one of two answers
-pub either_is : (x y a b : Bool) → x ≡ a → y ≡ b → x || y ≡ a || b
-either_is x y a b e f = rw (e, f)
+pub operations_any : (c : Command) (b n j : ℕ) → any (step_names_it c b) n j ≡ in_operations b (operations_from c n j)
+unfolding any
+operations_any c b zero j = refl
+operations_any c b (suc n) j =
+    ap (pick (step_names_it c b j) true) (operations_any c b n (suc j)) ∙ sym (or_pick (step_names_it c b j) (in_operations b (operations_from c n (suc j))))
+    ∙ sym (in_both b (operations_of (operation_at c j)) (operations_from c n (suc j)))
 
 -- ---- what a condition or an operation names is named by the command
 module _ (c : Command) (b : ℕ) where

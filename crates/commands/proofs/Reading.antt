@@ -1,34 +1,32 @@
 -- What the reader of a step answers: it is `step_read`; what it does not refuse is an operation within the limits. Assumes nothing.
-use Prim.Native.Nat.{ℕ, zero, suc, ◌+◌, ◌*◌, ◌-◌, ◌≤◌, ◌<◌}
+use Prim.Native.Nat.{ℕ, zero, suc, ◌+◌, ◌-◌, ◌≤◌, ◌<◌}
 use mathlib.Core.Path.{◌≡◌, refl, sym, ap, ap₂, ◌∙◌, subst}
-use mathlib.Core.Bool.{Bool, true, false, not, ◌&&◌, ◌||◌, or-false}
+use mathlib.Core.Bool.{Bool, true, false, ◌&&◌}
 use mathlib.Core.List.{List, [], ◌∷◌, ◌++◌}
-use mathlib.Core.Logic.{◌⊎◌, inl, inr, ⊎_elim}
+use Rattle.std.specs.Prelude.{Option, Some, None, is_some}
+use mathlib.Core.Logic.{◌⊎◌, inl, inr}
 use native.Mathlib.Omega.{arith}
 use native.Mathlib.Decide.{dec_lt, ℕ_discrete}
 use native.Mathlib.Numerals.{add-one}
 use borrow.Author.Tests.{eq-eqb, ne_eqb, lt-ltb}
 use lib.Dec.{T, eqb, ltb, ltb→lt}
 use lib.ListN.{length, length-append}
-use Rattle.cases.specs.Cases.{pick, all}
-use Rattle.cases.proofs.Bools.{both, and_left, and_right, and_intro, is_true, or_left, holds as test-holds}
-use Rattle.cases.proofs.Loops.{all_stop, all_more}
+use Rattle.cases.specs.Cases.{pick}
+use Rattle.cases.proofs.Bools.{both, and_intro, or_left, holds as test-holds}
 use Rattle.protection.specs.Limits.{rights}
 use Rattle.protection.specs.Command.{Operation as ModelOperation, enter, delete, create_subject, create_object, destroy_subject, destroy_object, in_operation, in_operations}
 use Rattle.protection.specs.Judge.{first_operation, operation_in}
 use Rattle.protection.proofs.Calls.{OperationBelow}
-use Rattle.commands.specs.Steps.{on_cell, on_name, step_read, is_read}
+use Rattle.commands.specs.Steps.{StepRead, Enter, Delete, CreateSubject, CreateObject, DestroySubject, DestroyObject, Refused, on_cell, on_name, step_read, is_read}
 use Rattle.layout.specs.File.{byte}
-use Rattle.commands.specs.Refusals.{operation_fits, operation_fits_at}
-use Rattle.commands.specs.Contents.{step_in, operation_at, operations_of, operations_from, model_of, step_of, meaning}
-use Rattle.commands.specs.Fits.{Reads, Fits}
+use Rattle.commands.specs.Refusals.{operation_fits}
+use Rattle.commands.specs.Contents.{operation_at, operations_of, operations_from, model_of, step_of, step_told, meaning}
+use Rattle.commands.specs.Fits.{Fits}
 use Rattle.commands.specs.declared.Command.{Command}
 use Rattle.commands.specs.declared.Operation.{Operation}
 use Rattle.commands.specs.declared.Operation.TheVariants as op
-use Rattle.commands.specs.declared.StepRead.{StepRead}
-use Rattle.commands.specs.declared.StepRead.TheVariants.{Enter, Delete, CreateSubject, CreateObject, DestroySubject, DestroyObject, Refused}
 
--- ---- the reader's contract is an equation
+-- ---- the reader's contract says that its answer is `step_read`
 module _ (k g kind q x y : ℕ) (r : StepRead) where
   -- its seven lines
   abbrev Answered : Type 0
@@ -64,50 +62,21 @@ module _ (k g kind q x y : ℕ) (r : StepRead) where
       other n1 n2 n3 n4 n5 n6 (yes l) = inl l
       other n1 n2 n3 n4 n5 n6 (no l) = inr (omega arith)
 
-  -- and the equation is the contract
-  pub answers : r ≡ step_read k g kind q x y → Answered
-  unfolding step_read
-  answers e =
-      record {
-        enter = at 1;
-        delete = at 2;
-        create_subject = at 3;
-        create_object = at 4;
-        destroy_subject = at 5;
-        destroy_object = at 6;
-        any_other = λ h. e ∙ ⊎_elim (λ l. none (λ n a b z. omega arith)) (λ l. none (λ n a b z. omega arith)) h;
-      }
-    where
-      at : (n : ℕ) → kind ≡ n → r ≡ step_read k g n q x y
-      at n z = e ∙ ap (λ (i : ℕ). step_read k g i q x y) z
+-- ---- whether a step is read
+-- an answer with an operation is a step that is read
+some_told : (o : Option Operation) → is_some o ≡ is_read (step_told o)
+some_told None = refl
+some_told (Some (op.Enter q x y)) = refl
+some_told (Some (op.Delete q x y)) = refl
+some_told (Some (op.CreateSubject x)) = refl
+some_told (Some (op.CreateObject x)) = refl
+some_told (Some (op.DestroySubject x)) = refl
+some_told (Some (op.DestroyObject x)) = refl
 
-      none : ((n : ℕ) → 1 ≤ n → n ≤ 6 → kind ≡ n → ⊥) → step_read k g kind q x y ≡ Refused
-      none f =
-          rw (
-            ne_eqb kind 1 (f 1 (omega arith) (omega arith)),
-            ne_eqb kind 2 (f 2 (omega arith) (omega arith)),
-            ne_eqb kind 3 (f 3 (omega arith) (omega arith)),
-            ne_eqb kind 4 (f 4 (omega arith) (omega arith)),
-            ne_eqb kind 5 (f 5 (omega arith) (omega arith)),
-            ne_eqb kind 6 (f 6 (omega arith) (omega arith)),
-          )
-
--- ---- the loop that asks whether all steps are read
-module _ (g : ℕ) (p : List ℕ) (from n j : ℕ) (whole : Bool) (s : StepRead) (r : Bool) where
-  abbrev at : ℕ
-  at = from + 4 * j
-
-  told : Answered (byte p 0) g (byte p at) (byte p (at + 1)) (byte p (at + 2)) (byte p (at + 3)) s → r ≡ is_read s → r ≡ operation_fits_at g p from j
-  unfolding operation_fits
-  told h d = d ∙ ap is_read (read_is (byte p 0) g (byte p at) (byte p (at + 1)) (byte p (at + 2)) (byte p (at + 3)) s h)
-
-  pub steps_stop : Answered (byte p 0) g (byte p at) (byte p (at + 1)) (byte p (at + 2)) (byte p (at + 3)) s → r ≡ is_read s → not r ≡ true → j < n
-      → all (operation_fits_at g p from) (n - j) j ≡ whole → false ≡ whole
-  steps_stop h d t l e = all_stop (operation_fits_at g p from) n whole j r (told h d) t l e
-
-  pub steps_next : Answered (byte p 0) g (byte p at) (byte p (at + 1)) (byte p (at + 2)) (byte p (at + 3)) s → r ≡ is_read s → not r ≡ false → j < n
-      → all (operation_fits_at g p from) (n - j) j ≡ whole → all (operation_fits_at g p from) (n - (j + 1)) (j + 1) ≡ whole
-  steps_next h d t l e = all_more (operation_fits_at g p from) n whole j r (told h d) t l e
+pub some_read : (g : ℕ) (p : List ℕ) (i : ℕ) (s : Option Operation) (r : Bool) → Answered (byte p 0) g (byte p i) (byte p (i + 1)) (byte p (i + 2)) (byte p (i + 3)) (step_told s)
+    → r ≡ is_some s → r ≡ operation_fits g p i
+unfolding operation_fits
+some_read g p i s r h d = d ∙ some_told s ∙ ap is_read (read_is (byte p 0) g (byte p i) (byte p (i + 1)) (byte p (i + 2)) (byte p (i + 3)) (step_told s) h)
 
 -- ---- an operation, and what the reader says where it says it
 pub operations-of : (c : Operation) → operations_of (step_of c) ≡ model_of c ∷ []
@@ -276,10 +245,3 @@ module _ (g : ℕ) (c : Command) (F : Fits g c) (few : g ≤ rights) (one : c.op
 
   pub one_names : (b : ℕ) → T (in_operation b (model_by (operation_at c 0))) → T (in_operations b (meaning c).operations)
   one_names b t = subst (λ (l : List ModelOperation). T (in_operations b l)) (sym one-operation) (or_left (in_operation b (model_by (operation_at c 0))) false t)
-
--- ---- for `operation_at`
-pub said : (c : Command) (j : ℕ) (s t : StepRead) → s ≡ operation_at c j → s ≡ t → t ≡ operation_at c j
-said c j s t e d = sym d ∙ e
-
-pub never_refused : (c : Command) (j : ℕ) (s t : StepRead) → Fits rights c → j < c.operations → s ≡ operation_at c j → s ≡ Refused → t ≡ operation_at c j
-never_refused c j s t F l e d = let R = F.operation_read j l in absurd (says_none R.operation (sym d ∙ e ∙ R.is))

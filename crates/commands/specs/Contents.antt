@@ -1,15 +1,12 @@
 -- What a rule's section says: the command as the reader hands it out, and the machine's command that it stands for.
-use Rattle.std.specs.Prelude.{ℕ, zero, suc, ◌+◌, ◌*◌, ◌-◌, List, [], ◌∷◌, ◌++◌, length, get_or, take, drop, replicate, eqb}
-use Rattle.cases.specs.Cases.{pick, tabulate}
+use Rattle.std.specs.Prelude.{ℕ, zero, suc, ◌+◌, ◌*◌, ◌-◌, List, [], ◌∷◌, ◌++◌, length, get_or, take, drop, replicate, Option, Some, None}
+use Rattle.cases.specs.Cases.{tabulate}
 use Rattle.protection.specs.Limits.{rights, conditions, operations}
 use Rattle.protection.specs.Command.{Condition, Operation, enter, delete, create_subject, create_object, destroy_subject, destroy_object, Command as ModelCommand}
 use Rattle.layout.specs.File.{byte}
-use Rattle.commands.specs.Steps.{step_read}
-use Rattle.commands.specs.Refusals.{command_refusal}
+use Rattle.commands.specs.Steps.{StepRead, step_read}
+use Rattle.commands.specs.Steps as read
 use Rattle.commands.specs.declared.Command.{Command}
-use Rattle.commands.specs.declared.CommandRead.{CommandRead}
-use Rattle.commands.specs.declared.StepRead.{StepRead}
-use Rattle.commands.specs.declared.StepRead.TheVariants as read
 use Rattle.commands.specs.declared.Operation.{Operation as CodeOperation}
 use Rattle.commands.specs.declared.Operation.TheVariants.{Enter, Delete, CreateSubject, CreateObject, DestroySubject, DestroyObject}
 
@@ -34,9 +31,6 @@ command_of p =
       condition = padded (3 * conditions) (take (3 * byte p 1) (drop 3 p));
       operation = padded (4 * operations) (take (4 * byte p 2) (drop (3 + 3 * byte p 1) p));
     }
-
-unfoldable pub command_read : ℕ → List ℕ → CommandRead
-command_read g p = record { refused = command_refusal g p; command = pick (eqb (command_refusal g p) 0) (command_of p) no_command }
 
 -- ---- what they stand for
 -- "conditions of 3 bytes (right, subject blank, object blank)"
@@ -83,6 +77,11 @@ step_of (CreateSubject s) = read.CreateSubject s
 step_of (CreateObject o) = read.CreateObject o
 step_of (DestroySubject s) = read.DestroySubject s
 step_of (DestroyObject o) = read.DestroyObject o
+
+-- what the reader of a step answers: the operation, or nothing where the step is refused
+abbrev pub step_told : Option CodeOperation → StepRead
+step_told (Some o) = step_of o
+step_told None = read.Refused
 
 abbrev pub meaning : Command → ModelCommand
 meaning c = record { parameters = c.parameters; conditions = tabulate (condition_of c) c.conditions 0; operations = operations_from c c.operations 0 }

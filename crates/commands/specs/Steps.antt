@@ -1,8 +1,16 @@
 -- The reader of a step (document 02, C-12): the six primitive operations, as document 000 lists them, and refusal 9.
 use Rattle.std.specs.Prelude.{ℕ, Bool, true, false, ◌&&◌, ltb, eqb}
 use Rattle.cases.specs.Cases.{pick}
-use Rattle.commands.specs.declared.StepRead.{StepRead}
-use Rattle.commands.specs.declared.StepRead.TheVariants.{Enter, Delete, CreateSubject, CreateObject, DestroySubject, DestroyObject, Refused}
+
+-- what a step says: one of the six operations, over a right and parameters; or that it is refused, by 9
+pub data StepRead : Type 0 where
+  Enter : (right subject object : ℕ) → StepRead
+  Delete : (right subject object : ℕ) → StepRead
+  CreateSubject : ℕ → StepRead
+  CreateObject : ℕ → StepRead
+  DestroySubject : ℕ → StepRead
+  DestroyObject : ℕ → StepRead
+  Refused : StepRead
 
 -- ---- of a step with right, first and second blank, in a rule of k blanks and a file of g rights
 -- kinds 1 and 2: refused are "a right from g on, a blank from k on"

@@ -1,17 +1,19 @@
 // A command (document 01: a rule) and its reader.
 #![tactic(auto)]
 
-ghost use Rattle.std.specs.Prelude.{◌≡◌, ◌⊎◌, ◌+◌, ◌*◌, ◌≤◌, ◌<◌, length, take, drop};
+ghost use Rattle.std.specs.Prelude.{◌≡◌, ◌⊎◌, ◌+◌, ◌*◌, ◌≤◌, ◌<◌, length, IfOk};
 ghost use Rattle.protection.specs.Limits.{rights, conditions, operations};
 ghost use Rattle.cases.specs.Cases.{all, tabulate};
+ghost use Rattle.refusals.specs.Numbers.{code};
 ghost use Rattle.protection.specs.Command.{in_conditions, in_operations, named};
 ghost use Rattle.layout.specs.File.{byte};
-ghost use Rattle.commands.specs.Refusals.{condition_fits, condition_fits_at, operation_fits_at, command_refusal};
-ghost use Rattle.commands.specs.Steps.{on_cell, on_name, is_read};
+ghost use Rattle.commands.specs.Refusals.{condition_fits, operation_fits, condition_fits_at, operation_fits_at, command_refusal};
+ghost use Rattle.commands.specs.Steps.{StepRead, on_cell, on_name};
 ghost use Rattle.commands.specs.Fits.{Fits};
-ghost use Rattle.commands.specs.Contents.{padded, no_command, command_of, command_read, condition_of, operation_at, step_of, operations_of, operations_from, meaning};
+ghost use Rattle.commands.specs.Contents.{no_command, command_of, condition_of, operation_at, step_of, step_told, operations_of, operations_from, meaning};
 
 use matrix::Matrix;
+use refusals::Refusal;
 
 // How many parameters, conditions and operations there are, and their bytes as in the file: 3 for a condition, 4 for an operation.
 #[derive(Clone, Copy)]
@@ -21,13 +23,6 @@ pub struct Command {
     pub operations: u8,
     pub condition: [u8; 3 * Command::CONDITIONS],
     pub operation: [u8; 4 * Command::OPERATIONS],
-}
-
-// refused is 0 where the command was read.
-#[derive(Drop)]
-pub struct CommandRead {
-    pub refused: u8,
-    pub command: Command,
 }
 
 impl Command {
@@ -59,218 +54,14 @@ fn condition_fits(part: &[u8], g: u8, at: usize) -> bool
     ensures { result ≡ condition_fits g part.now at }
 {
     let k = part[0];
-    if part[at] < g {
-        if part[at + 1] < k {
-            return part[at + 2] < k;
-        }
-        return false;
-    }
-    false
+    part[at] < g && part[at + 1] < k && part[at + 2] < k
 }
 
 fn conditions_fit(part: &[u8], g: u8, count: usize) -> bool
     requires { (count ≤ conditions) × (3 + 3 * count ≤ length part.now) }
     ensures { result ≡ all (condition_fits_at g part.now) count 0 }
 {
-    for j in 0..count {
-        if !condition_fits(part, g, 3 + 3 * j) {
-            return false;
-        }
-    }
-    true
-}
-
-// What the reader of a step answers: one of the six primitive operations, over a right and parameters; or that the step is refused, by 9.
-#[derive(Drop)]
-pub enum StepRead {
-    Enter { right: u8, subject: u8, object: u8 },
-    Delete { right: u8, subject: u8, object: u8 },
-    CreateSubject(u8),
-    CreateObject(u8),
-    DestroySubject(u8),
-    DestroyObject(u8),
-    Refused,
-}
-
-// A step's four bytes, in a command of k parameters and a file of g rights.
-fn read_step(kind: u8, right: u8, first: u8, second: u8, k: u8, g: u8) -> StepRead
-    ensures enter { kind ≡ 1 → result ≡ on_cell k g right first second (StepRead.Enter right first second) }
-    ensures delete { kind ≡ 2 → result ≡ on_cell k g right first second (StepRead.Delete right first second) }
-    ensures create_subject { kind ≡ 3 → result ≡ on_name k right first second (StepRead.CreateSubject first) }
-    ensures create_object { kind ≡ 4 → result ≡ on_name k right first second (StepRead.CreateObject first) }
-    ensures destroy_subject { kind ≡ 5 → result ≡ on_name k right first second (StepRead.DestroySubject first) }
-    ensures destroy_object { kind ≡ 6 → result ≡ on_name k right first second (StepRead.DestroyObject first) }
-    ensures any_other { (kind < 1) ⊎ (6 < kind) → result ≡ StepRead.Refused }
-{
-    let on_cell = (right < g) & (first < k) & (second < k);
-    let on_name = (right == 0) & (first < k) & (second == 0);
-    match kind {
-        1 => {
-            if on_cell {
-                return StepRead::Enter {
-                    right,
-                    subject: first,
-                    object: second,
-                };
-            }
-            StepRead::Refused
-        }
-        2 => {
-            if on_cell {
-                return StepRead::Delete {
-                    right,
-                    subject: first,
-                    object: second,
-                };
-            }
-            StepRead::Refused
-        }
-        3 => {
-            if on_name {
-                return StepRead::CreateSubject(first);
-            }
-            StepRead::Refused
-        }
-        4 => {
-            if on_name {
-                return StepRead::CreateObject(first);
-            }
-            StepRead::Refused
-        }
-        5 => {
-            if on_name {
-                return StepRead::DestroySubject(first);
-            }
-            StepRead::Refused
-        }
-        6 => {
-            if on_name {
-                return StepRead::DestroyObject(first);
-            }
-            StepRead::Refused
-        }
-        _ => StepRead::Refused,
-    }
-}
-
-fn is_read(step: StepRead) -> bool
-    ensures { result ≡ is_read step }
-{
-    match step {
-        StepRead::Enter {
-            right: _,
-            subject: _,
-            object: _,
-        } => true,
-        StepRead::Delete {
-            right: _,
-            subject: _,
-            object: _,
-        } => true,
-        StepRead::CreateSubject(_) => true,
-        StepRead::CreateObject(_) => true,
-        StepRead::DestroySubject(_) => true,
-        StepRead::DestroyObject(_) => true,
-        StepRead::Refused => false,
-    }
-}
-
-// The reader refuses none of the steps that stand from a place of the section on.
-fn operations_fit(part: &[u8], g: u8, from: usize, count: usize) -> bool
-    requires { (count ≤ operations) × (from + 4 * count ≤ length part.now) }
-    ensures { result ≡ all (operation_fits_at g part.now from) count 0 }
-{
-    for j in 0..count {
-        let at = from + 4 * j;
-        let step = read_step(
-            part[at],
-            part[at + 1],
-            part[at + 2],
-            part[at + 3],
-            part[0],
-            g,
-        );
-        if !is_read(step) {
-            return false;
-        }
-    }
-    true
-}
-
-// The refusal of a command's section, or 0.
-fn command_refusal(part: &[u8], g: u8) -> u8
-    ensures { result ≡ command_refusal g part.now }
-{
-    if part.len() < 3 {
-        return 5;
-    }
-    let k = part[0] as usize;
-    if k < 1 {
-        return 8;
-    }
-    if Command::PARAMETERS < k {
-        return 8;
-    }
-    let c = part[1] as usize;
-    if Command::CONDITIONS < c {
-        return 8;
-    }
-    let m = part[2] as usize;
-    if m < 1 {
-        return 8;
-    }
-    if Command::OPERATIONS < m {
-        return 8;
-    }
-    let mid = 3 + 3 * c;
-    if part.len() != mid + 4 * m {
-        return 5;
-    }
-    if !conditions_fit(part, g, c) {
-        return 9;
-    }
-    if !operations_fit(part, g, mid, m) {
-        return 9;
-    }
-    0
-}
-
-fn command_of(part: &[u8]) -> Command
-    requires { (byte part.now 1 ≤ conditions) × (byte part.now 2 ≤ operations) × (length part.now ≡ 3 + 3 * byte part.now 1 + 4 * byte part.now 2) }
-    ensures { result ≡ command_of part.now }
-{
-    let c = part[1];
-    let m = part[2];
-    let mid = 3 + 3 * (c as usize);
-    let end = part.len();
-    let mut condition = [0u8; 3 * Command::CONDITIONS];
-    condition[..mid - 3].copy_from_slice(&part[3..mid]);
-    let mut operation = [0u8; 4 * Command::OPERATIONS];
-    operation[..end - mid].copy_from_slice(&part[mid..end]);
-    Command {
-        parameters: part[0],
-        conditions: c,
-        operations: m,
-        condition,
-        operation,
-    }
-}
-
-// The command in its section, with g rights; or why it is refused.
-pub fn read_command(part: &[u8], g: u8) -> CommandRead
-    ensures { result ≡ command_read g part.now }
-{
-    let refused = command_refusal(part, g);
-    if refused != 0 {
-        return CommandRead {
-            refused,
-            command: Command::none(),
-        };
-    }
-    CommandRead {
-        refused: 0,
-        command: command_of(part),
-    }
+    (0..count).all(|j| condition_fits(part, g, 3 + 3 * j))
 }
 
 // The six primitive operations; the numbers are a right and parameters.
@@ -284,11 +75,122 @@ pub enum Operation {
     DestroyObject(u8),
 }
 
+// A step's four bytes, in a command of k parameters and a file of g rights: the operation, unless the step is refused, by 9.
+fn read_step(kind: u8, right: u8, first: u8, second: u8, k: u8, g: u8) -> Option<Operation>
+    ensures enter { kind ≡ 1 → step_told result ≡ on_cell k g right first second (StepRead.Enter right first second) }
+    ensures delete { kind ≡ 2 → step_told result ≡ on_cell k g right first second (StepRead.Delete right first second) }
+    ensures create_subject { kind ≡ 3 → step_told result ≡ on_name k right first second (StepRead.CreateSubject first) }
+    ensures create_object { kind ≡ 4 → step_told result ≡ on_name k right first second (StepRead.CreateObject first) }
+    ensures destroy_subject { kind ≡ 5 → step_told result ≡ on_name k right first second (StepRead.DestroySubject first) }
+    ensures destroy_object { kind ≡ 6 → step_told result ≡ on_name k right first second (StepRead.DestroyObject first) }
+    ensures any_other { (kind < 1) ⊎ (6 < kind) → step_told result ≡ StepRead.Refused }
+{
+    let on_cell = right < g && first < k && second < k;
+    let on_name = right == 0 && first < k && second == 0;
+    match kind {
+        1 if on_cell => Some(Operation::Enter {
+            right,
+            subject: first,
+            object: second,
+        }),
+        2 if on_cell => Some(Operation::Delete {
+            right,
+            subject: first,
+            object: second,
+        }),
+        3 if on_name => Some(Operation::CreateSubject(first)),
+        4 if on_name => Some(Operation::CreateObject(first)),
+        5 if on_name => Some(Operation::DestroySubject(first)),
+        6 if on_name => Some(Operation::DestroyObject(first)),
+        _ => None,
+    }
+}
+
+// The reader does not refuse the step at a place of the section.
+fn operation_fits(part: &[u8], g: u8, at: usize) -> bool
+    requires { at + 4 ≤ length part.now }
+    ensures { result ≡ operation_fits g part.now at }
+{
+    read_step(
+        part[at],
+        part[at + 1],
+        part[at + 2],
+        part[at + 3],
+        part[0],
+        g,
+    )
+    .is_some()
+}
+
+// The reader refuses none of the steps that stand from a place of the section on.
+fn operations_fit(part: &[u8], g: u8, from: usize, count: usize) -> bool
+    requires { (count ≤ operations) × (from + 4 * count ≤ length part.now) }
+    ensures { result ≡ all (operation_fits_at g part.now from) count 0 }
+{
+    (0..count).all(|j| operation_fits(part, g, from + 4 * j))
+}
+
+// The section of a command fits: its length, how many parameters, conditions and operations there are, and each of these.
+fn check_command(part: &[u8], g: u8) -> Result<(), Refusal>
+    ensures { code result ≡ command_refusal g part.now }
+{
+    if part.len() < 3 {
+        return Err(Refusal::SectionLength);
+    }
+    let k = part[0] as usize;
+    if k < 1 || Command::PARAMETERS < k {
+        return Err(Refusal::CommandCounts);
+    }
+    let c = part[1] as usize;
+    if Command::CONDITIONS < c {
+        return Err(Refusal::CommandCounts);
+    }
+    let m = part[2] as usize;
+    if m < 1 || Command::OPERATIONS < m {
+        return Err(Refusal::CommandCounts);
+    }
+    let mid = 3 + 3 * c;
+    if part.len() != mid + 4 * m {
+        return Err(Refusal::SectionLength);
+    }
+    if !conditions_fit(part, g, c) || !operations_fit(part, g, mid, m) {
+        return Err(Refusal::CommandParts);
+    }
+    Ok(())
+}
+
+fn command_of(part: &[u8]) -> Command
+    requires { (byte part.now 1 ≤ conditions) × (byte part.now 2 ≤ operations) × (length part.now ≡ 3 + 3 * byte part.now 1 + 4 * byte part.now 2) }
+    ensures { result ≡ command_of part.now }
+{
+    let (conditions, operations) = part[3..].split_at(3 * (part[1] as usize));
+    let mut condition = [0u8; 3 * Command::CONDITIONS];
+    condition[..conditions.len()].copy_from_slice(conditions);
+    let mut operation = [0u8; 4 * Command::OPERATIONS];
+    operation[..operations.len()].copy_from_slice(operations);
+    Command {
+        parameters: part[0],
+        conditions: part[1],
+        operations: part[2],
+        condition,
+        operation,
+    }
+}
+
+// The command in its section, with g rights; or why it is refused.
+pub fn read_command(part: &[u8], g: u8) -> Result<Command, Refusal>
+    ensures refused { code result ≡ command_refusal g part.now }
+    ensures read { IfOk result (λ c. c ≡ command_of part.now) }
+{
+    check_command(part, g)?;
+    Ok(command_of(part))
+}
+
 impl Command {
     // What the reader says of step number j.
-    fn step_at(self, j: usize) -> StepRead
+    fn step_at(self, j: usize) -> Option<Operation>
         requires { j < operations }
-        ensures { result ≡ operation_at self j }
+        ensures { step_told result ≡ operation_at self j }
     {
         let kind = self.operation[4 * j];
         let right = self.operation[4 * j + 1];
@@ -302,56 +204,34 @@ impl Command {
         requires { Fits rights self × (j < self.operations) }
         ensures { step_of result ≡ operation_at self j }
     {
-        let step = self.step_at(j);
-        match step {
-            StepRead::Enter {
-                right,
-                subject,
-                object,
-            } => Operation::Enter {
-                right,
-                subject,
-                object,
-            },
-            StepRead::Delete {
-                right,
-                subject,
-                object,
-            } => Operation::Delete {
-                right,
-                subject,
-                object,
-            },
-            StepRead::CreateSubject(s) => Operation::CreateSubject(s),
-            StepRead::CreateObject(o) => Operation::CreateObject(o),
-            StepRead::DestroySubject(s) => Operation::DestroySubject(s),
-            StepRead::DestroyObject(o) => Operation::DestroyObject(o),
-            // never reached: a command that was read has no such step
-            StepRead::Refused => Operation::DestroyObject(0),
-        }
+        self.step_at(j).unwrap()
     }
 }
 
 // The step names parameter b.
-fn step_names(step: StepRead, b: u8) -> bool
-    ensures { result ≡ in_operations b (operations_of step) }
+fn step_names(step: Option<Operation>, b: u8) -> bool
+    ensures { result ≡ in_operations b (operations_of (step_told step)) }
 {
     match step {
-        StepRead::Enter {
-            right: _,
-            subject,
-            object,
-        } => (b == subject) | (b == object),
-        StepRead::Delete {
-            right: _,
-            subject,
-            object,
-        } => (b == subject) | (b == object),
-        StepRead::CreateSubject(s) => b == s,
-        StepRead::CreateObject(o) => b == o,
-        StepRead::DestroySubject(s) => b == s,
-        StepRead::DestroyObject(o) => b == o,
-        StepRead::Refused => false,
+        Some(
+            Operation::Enter {
+                right: _,
+                subject,
+                object,
+            }
+            | Operation::Delete {
+                right: _,
+                subject,
+                object,
+            },
+        ) => b == subject || b == object,
+        Some(
+            Operation::CreateSubject(x)
+            | Operation::CreateObject(x)
+            | Operation::DestroySubject(x)
+            | Operation::DestroyObject(x),
+        ) => b == x,
+        None => false,
     }
 }
 
@@ -360,26 +240,15 @@ impl Command {
         requires { self.conditions ≤ conditions }
         ensures { result ≡ in_conditions b (tabulate (condition_of self) self.conditions 0) }
     {
-        let n = self.conditions as usize;
-        for j in 0..n {
-            if (b == self.condition[3 * j + 1]) | (b == self.condition[3 * j + 2]) {
-                return true;
-            }
-        }
-        false
+        (0..self.conditions as usize).any(|j| b == self.condition[3 * j + 1]
+            || b == self.condition[3 * j + 2])
     }
 
     fn in_operations(self, b: u8) -> bool
         requires { self.operations ≤ operations }
         ensures { result ≡ in_operations b (operations_from self self.operations 0) }
     {
-        let n = self.operations as usize;
-        for j in 0..n {
-            if step_names(self.step_at(j), b) {
-                return true;
-            }
-        }
-        false
+        (0..self.operations as usize).any(|j| step_names(self.step_at(j), b))
     }
 
     // A condition or an operation names parameter b.
@@ -387,6 +256,6 @@ impl Command {
         requires { (self.conditions ≤ conditions) × (self.operations ≤ operations) }
         ensures { result ≡ named (meaning self) b }
     {
-        self.in_conditions(b) | self.in_operations(b)
+        self.in_conditions(b) || self.in_operations(b)
     }
 }

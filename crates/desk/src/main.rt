@@ -67,6 +67,7 @@ fn read_input<R: Read>(from: &mut R, input: &mut [u8]) -> Reading
     ensures end { IsNone result.failed → result.bytes < length input.new → IsAtEnd (R.remaining from.new) }
 {
     let mut n: usize = 0;
+    // a read brings as many bytes as it likes
     while n < input.len() {
         let reading = read_from(from, input, n);
         n += reading.bytes;

@@ -3,12 +3,9 @@
 use Rattle.std.specs.Prelude.{ℕ, ◌≡◌, Bool, false, ◌||◌, List, [], ◌∷◌, ◌++◌, eqb}
 use Prim.Native.String.{String}
 use Rattle.cases.specs.Cases.{pick}
-use Rattle.trace.specs.declared.Replay.{Replay}
-use Rattle.trace.specs.declared.Replay.TheVariants.{NoLeak, Leak, Refused as RefusedAt}
-use Rattle.safety.specs.declared.Judgement.{Judgement}
-use Rattle.safety.specs.declared.Judgement.TheVariants.{Refused, Safe, Unsafe}
-use Rattle.needs.specs.declared.Need.{Need}
-use Rattle.needs.specs.declared.Need.TheVariants.{Refused as NeedRefused, Held, Never}
+use Rattle.trace.specs.Replays.{Replay, NoLeak, Leak, Refused as RefusedAt}
+use Rattle.safety.specs.Demand3.{Judgement, Refused, Safe, Unsafe}
+use Rattle.needs.specs.Needed.{Need, Refused as NeedRefused, Held, Never}
 use Rattle.rows.specs.Build.{joined}
 use Rattle.rows.specs.Cases.{Case, checks, runs, replays, judges, judges_part, needs, asks, prints, Row, row_names, AllHold}
 use Rattle.sliprows.specs.Slips.{slip_cases}

@@ -1,23 +1,23 @@
 -- The tests before the first operation, in the words of the model. Assumes nothing.
-use Prim.Native.Nat.{ℕ, ◌+◌, ◌*◌, ◌-◌, ◌≤◌, ◌<◌}
+use Prim.Native.Nat.{ℕ, zero, suc, ◌+◌, ◌*◌, ◌≤◌, ◌<◌}
 use mathlib.Core.Path.{◌≡◌, refl, sym, ap, ap₂, ◌∙◌}
 use mathlib.Core.Bool.{Bool, true, false, not, ◌&&◌, ◌||◌, or-false}
 use mathlib.Core.List.{List}
-use native.Mathlib.Nat.{sub-zero}
-use native.Mathlib.Omega.{arith}
 use borrow.Author.Tests.{lt-ltb, le-ltb}
 use lib.Bits.{bit_and}
 use lib.Dec.{eqb}
-use lib.ListN.{get_or}
-use Rattle.cases.specs.Cases.{tabulate}
-use Rattle.cases.proofs.Lists.{every_stop, every_next}
+use lib.ListN.{length, get_or}
+use Rattle.std.specs.Bool.{MatchBool}
+use Rattle.std.specs.List.{AllWithin, HoldsAt, range_with_len}
+use Rattle.cases.specs.Cases.{pick, all, tabulate}
+use Rattle.cases.proofs.Slices.{all_of_range}
 use Rattle.rights.specs.Rights.{has}
 use Rattle.protection.specs.Limits.{names, rights, unused}
+use Rattle.protection.specs.State.{State}
 use Rattle.protection.specs.Command.{System, named, values_of}
 use Rattle.protection.specs.Carrying.{meets}
 use Rattle.protection.specs.Execution.{bounded, holds, hold_all, actual_fits}
 use Rattle.matrix.specs.Bytes.{inside, rights_in, view}
-use Rattle.carries.specs.Meeting.{MetBy}
 use Rattle.commands.specs.Contents.{condition_of, meaning}
 use Rattle.commands.specs.declared.Command.{Command}
 use Rattle.execution.specs.Conditions.{HeldBy, AllHeldBy}
@@ -54,37 +54,26 @@ module _ (ks cs carriers a : List ℕ) (c : Command) (j x y : ℕ) (ex : x ≡ g
       }
 
   -- no other meets any
-  pub condition_lacks : b ≡ false → HeldBy ks cs carriers a c j false
-  condition_lacks t = let z : inside ks x y ≡ false = sym d ∙ t in record { is = λ S M. sym (at_names S ∙ rw z) }
+  pub condition_lacks : b ≡ false → HeldBy ks cs carriers a c j b
+  condition_lacks t = let z : inside ks x y ≡ false = sym d ∙ t in record { is = λ S M. t ∙ sym (at_names S ∙ rw z) }
 
--- what is left of the conditions, from where the loop stands, is the whole
-pub record Asking (ks cs carriers a : List ℕ) (c : Command) (n j : ℕ) : Type 0 where
-  pub all : n ≡ c.conditions
-  pub within : j ≤ n
-  pub left : (S : System) → MetBy S carriers
-      → hold_all S (view ks cs) (values_of a) (tabulate (condition_of c) (n - j) j) ≡ hold_all S (view ks cs) (values_of a) (tabulate (condition_of c) c.conditions 0)
+-- ---- all conditions
+each_held : (S : System) (m : State) (f : ℕ → ℕ) (c : Command) (n j : ℕ) → all (λ (i : ℕ). holds S m f (condition_of c i)) n j ≡ hold_all S m f (tabulate (condition_of c) n j)
+unfolding all
+each_held S m f c zero j = refl
+each_held S m f c (suc n) j = both (holds S m f (condition_of c j)) _ ∙ ap (λ (b : Bool). holds S m f (condition_of c j) && b) (each_held S m f c n (suc j))
+  where
+    both : (b c : Bool) → pick b c false ≡ b && c
+    both true c = refl
+    both false c = refl
 
 module _ (ks cs carriers a : List ℕ) (c : Command) where
-  pub asking_start : Asking ks cs carriers a c c.conditions 0
-  asking_start = record { all = refl; within = omega arith; left = λ S M. rw sub-zero }
-
-  module _ (n j : ℕ) (A : Asking ks cs carriers a c n j) where
-    module _ (r : Bool) (H : HeldBy ks cs carriers a c j r) (h : j < n) where
-      pub asking_stop : not r ≡ true → AllHeldBy ks cs carriers a c false
-      asking_stop t =
-          record {
-            is = λ S M. every_stop (hold_all S (view ks cs) (values_of a)) (holds S (view ks cs) (values_of a)) (λ x xs. refl) (condition_of c) n j
-                (hold_all S (view ks cs) (values_of a) (tabulate (condition_of c) c.conditions 0)) r (H.is S M) t h (A.left S M);
-          }
-
-      pub asking_more : not r ≡ false → Asking ks cs carriers a c n (j + 1)
-      asking_more t =
-          record {
-            all = A.all;
-            within = omega arith;
-            left = λ S M. every_next (hold_all S (view ks cs) (values_of a)) (holds S (view ks cs) (values_of a)) (λ x xs. refl) (condition_of c) n j
-                (hold_all S (view ks cs) (values_of a) (tabulate (condition_of c) c.conditions 0)) r (H.is S M) t h (A.left S M);
-          }
-
-    pub asking_end : n ≤ j → AllHeldBy ks cs carriers a c true
-    asking_end h = let z : n - j ≡ 0 = omega arith in record { is = λ S M. rw z at (A.left S M) }
+  -- an answer about each of them, in every system, is one about all
+  pub held_each : (r : Bool) → MatchBool r (AllWithin (λ (j : ℕ). HeldBy ks cs carriers a c j true) (range_with_len 0 c.conditions) 0 (length (range_with_len 0 c.conditions)))
+      ((k : ℕ) × (k < length (range_with_len 0 c.conditions)) × HoldsAt (λ (j : ℕ). HeldBy ks cs carriers a c j false) (range_with_len 0 c.conditions) k)
+      → AllHeldBy ks cs carriers a c r
+  held_each r h =
+      record {
+        is = λ S M. all_of_range (λ (j : ℕ). holds S (view ks cs) (values_of a) (condition_of c j)) (λ (j : ℕ). HeldBy ks cs carriers a c j true) (λ (j : ℕ). HeldBy ks cs carriers a c j false) 0 c.conditions r
+            (λ j l k H. sym (H.is S M)) (λ j l k H. sym (H.is S M)) h ∙ each_held S (view ks cs) (values_of a) c c.conditions 0;
+      }

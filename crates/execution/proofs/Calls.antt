@@ -2,13 +2,13 @@
 use Prim.Native.Nat.{ℕ, ◌+◌, ◌≤◌, ◌<◌}
 use mathlib.Core.Path.{◌≡◌, refl, sym, ap, ◌∙◌, subst}
 use mathlib.Core.List.{List}
-use mathlib.Core.Option.{Option, none, some}
+use mathlib.Core.Option.{Option, some}
 use native.Mathlib.Omega.{arith}
 use lib.ListN.{get_or, get_elem?}
 use Rattle.cases.proofs.Lists.{found_tabulate, none_tabulate}
 use Rattle.protection.specs.Limits.{rights}
 use Rattle.protection.specs.Command.{Command as ModelCommand, values_of}
-use Rattle.protection.specs.Execution.{bounded, Outcome, refused, execute_command}
+use Rattle.protection.specs.Execution.{bounded, execute_command}
 use Rattle.matrix.specs.Canonical.{Canonical}
 use Rattle.matrix.specs.Matrices.{state_of}
 use Rattle.matrix.specs.declared.Matrix.{Matrix}
@@ -20,9 +20,7 @@ use Rattle.policy.specs.Contents.{system_of}
 use Rattle.policy.specs.Fits.{PolicyFits}
 use Rattle.policy.specs.declared.Policy.{Policy}
 use Rattle.policy.proofs.Laws.{policy_met}
-use Rattle.execution.specs.Runs.{executed_of, outcome_of, ExecutedAs, RunBy}
-use Rattle.execution.specs.declared.Answer.TheVariants.{Refused}
-use Rattle.execution.specs.declared.Executed.{Executed}
+use Rattle.execution.specs.Runs.{Refused, Executed, executed_of, outcome_of, ExecutedAs, RunBy}
 use Rattle.execution.proofs.Running.{executed_refused}
 
 module _ (p : Policy) (m : Matrix) (i : ℕ) (a : List ℕ) (right : ℕ) where

@@ -1,21 +1,21 @@
 -- The loop over a command's operations, and a whole call. Assumes nothing.
-use Prim.Native.Nat.{ℕ, zero, suc, ◌+◌, ◌*◌, ◌-◌, ◌^◌, ◌≤◌, ◌<◌}
+use Rattle.std.specs.Prelude.{Option, Some, None, is_some}
+use Prim.Native.Nat.{ℕ, ◌+◌, ◌-◌, ◌≤◌, ◌<◌}
 use mathlib.Core.Path.{◌≡◌, refl, sym, ap, ap₂, ◌∙◌, subst}
-use mathlib.Core.Bool.{Bool, true, false, not, ◌&&◌, ◌||◌, or-false}
+use mathlib.Core.Bool.{Bool, true, false, not, ◌||◌, or-false}
 use mathlib.Core.List.{List, [], ◌∷◌}
-use mathlib.Core.Option.{Option, none, some}
+use mathlib.Core.Option.{some}
 use native.Mathlib.Nat.{sub-zero}
-use native.Mathlib.Numerals.{add-one}
 use native.Mathlib.Omega.{arith}
 use borrow.Author.Tests.{not-true, not-false}
 use lib.Dec.{T, eqb, eqb_refl, ltb→lt}
-use lib.ListN.{length, get_or, get_elem?}
+use lib.ListN.{get_or}
 use Rattle.cases.specs.Cases.{pick, all, tabulate}
 use Rattle.cases.proofs.Bools.{holds as test-holds, or_left, or_right}
 use Rattle.protection.specs.Limits.{names, rights, parameters}
 use Rattle.protection.specs.State.{State}
 use Rattle.protection.specs.Command.{Operation as ModelOperation, System, values_of, in_operation, named}
-use Rattle.protection.specs.Execution.{bounded, hold_all, actual_fits, can_do, effect, enters_new, can_do_all, effect_all, enters_any_new, Outcome, refused, done, gate, execute_command}
+use Rattle.protection.specs.Execution.{bounded, hold_all, actual_fits, can_do, effect, enters_new, can_do_all, effect_all, enters_any_new, Outcome, refused, done, execute_command}
 use Rattle.protection.specs.Leak.{after}
 use Rattle.matrix.specs.Bytes.{view}
 use Rattle.matrix.specs.Canonical.{Canonical}
@@ -28,11 +28,8 @@ use Rattle.commands.specs.declared.Command.{Command}
 use Rattle.commands.specs.declared.Operation.{Operation}
 use Rattle.commands.specs.declared.Operation.TheVariants.{Enter, Delete, CreateSubject, CreateObject, DestroySubject, DestroyObject}
 use Rattle.operations.specs.Operations.{HasName, Applies, performed}
-use Rattle.execution.specs.Conditions.{ConditionApplies, ConditionsApply, AllHeldBy}
-use Rattle.execution.specs.Runs.{OperationsApply, RanAs, answer_of, executed_of, ExecutedAs, RunBy}
-use Rattle.execution.specs.declared.Answer.{Answer}
-use Rattle.execution.specs.declared.Answer.TheVariants.{Refused, Done, Leaked}
-use Rattle.execution.specs.declared.Ran.{Ran}
+use Rattle.execution.specs.Conditions.{ConditionsApply, AllHeldBy}
+use Rattle.execution.specs.Runs.{OperationsApply, ran_told, RanAs, Answer, Refused, Done, Leaked, answer_of, executed_of, ExecutedAs, RunBy}
 use Rattle.protection.proofs.Spare.{named_used, fits_name}
 use Rattle.protection.proofs.Calls.{OperationBelow}
 use Rattle.commands.proofs.Names.{condition_names, operation_names}
@@ -70,7 +67,7 @@ module _ (right : ℕ) (m : Matrix) (a : List ℕ) (c : Command) (j : ℕ) (x : 
   can_here : r ≡ can_do (state_of x) (values_of a) (model_of op)
   can_here = d ∙ can_by_kinds x.kinds [] x.cells (values_of a) op
 
-  pub going_stop : not r ≡ true → RanAs right m a c x (record { done = false; leaked = leaked }) (c.operations ≡ 1)
+  pub going_stop : not r ≡ true → RanAs right m a c x (ran_told None) (c.operations ≡ 1)
   going_stop t =
       let z : can_do (state_of x) (values_of a) (model_of op) ≡ false = sym can_here ∙ not-true r t in
       let w : can_do_all (state_of x) (values_of a) (operations_from c (c.operations - j) j) ≡ false = ap (can_do_all (state_of x) (values_of a)) unrolled ∙ rw z in
@@ -108,7 +105,7 @@ module _ (right : ℕ) (m : Matrix) (a : List ℕ) (c : Command) (j : ℕ) (x : 
       or_assoc false v w = refl
 
 pub going_end : (right : ℕ) (m : Matrix) (a : List ℕ) (c : Command) (j : ℕ) (x : Matrix) (leaked : Bool) → Going right m a c j x leaked → c.operations ≤ j
-    → RanAs right m a c x (record { done = true; leaked = leaked }) (c.operations ≡ 1)
+    → RanAs right m a c x (ran_told (Some leaked)) (c.operations ≡ 1)
 going_end right m a c j x leaked G h =
     let z : c.operations - j ≡ 0 = omega arith in
     record {
@@ -120,21 +117,27 @@ going_end right m a c j x leaked G h =
     }
 
 -- ---- all or none
-module _ (right : ℕ) (m : Matrix) (a : List ℕ) (c : Command) (y : Matrix) (x : Ran) (h : RanAs right m a c y x (c.operations ≡ 1)) where
-  pub all_one : c.operations ≡ 1 → RanAs right m a c y x (Unit {0})
+module _ (right : ℕ) (m : Matrix) (a : List ℕ) (c : Command) (y : Matrix) (w : Option Bool) (h : RanAs right m a c y (ran_told w) (c.operations ≡ 1)) where
+  pub all_one : c.operations ≡ 1 → RanAs right m a c y (ran_told w) (Unit {0})
   all_one one = record { able = h.able; leak = h.leak; state = h.state; canonical = h.canonical; none = λ q _. h.none q one }
 
-  pub all_back : Canonical rights m.kinds m.cells → not x.done ≡ true → RanAs right m a c m x (Unit {0})
-  all_back K t = record { able = h.able; leak = h.leak; state = λ q. absurd (both x.done t q); canonical = K; none = λ _ _. refl }
-    where
-      both : (b : Bool) → not b ≡ true → b ≡ true → ⊥
-      both b u v = let z : ◌≡◌ {A = ℕ} 0 1 = cc (not-true b u) in omega arith
+  module _ (b : Bool) (e : is_some w ≡ not b) where
+    told : (v : Option Bool) → (ran_told v).done ≡ is_some v
+    told None = refl
+    told (Some leaked) = refl
 
-  pub all_done : not x.done ≡ false → RanAs right m a c y x (Unit {0})
-  all_done t = record { able = h.able; leak = h.leak; state = h.state; canonical = h.canonical; none = λ q _. absurd (both x.done t q) }
-    where
-      both : (b : Bool) → not b ≡ false → b ≡ false → ⊥
-      both b u v = let z : ◌≡◌ {A = ℕ} 0 1 = cc (not-false b u) in omega arith
+    both : (u : Bool) → u ≡ false → u ≡ true → ⊥
+    both u f t = let z : ◌≡◌ {A = ℕ} 0 1 = cc in omega arith
+
+    pub all_back : b ≡ true → Canonical rights m.kinds m.cells → RanAs right m a c m (ran_told w) (Unit {0})
+    all_back t K =
+        let f : (ran_told w).done ≡ false = told w ∙ e ∙ rw t in
+        record { able = h.able; leak = h.leak; state = λ q. absurd (both (ran_told w).done f q); canonical = K; none = λ _ _. refl }
+
+    pub all_done : b ≡ false → RanAs right m a c y (ran_told w) (Unit {0})
+    all_done t =
+        let f : (ran_told w).done ≡ true = told w ∙ e ∙ rw t in
+        record { able = h.able; leak = h.leak; state = h.state; canonical = h.canonical; none = λ q _. absurd (both (ran_told w).done q f) }
 
 -- ---- what a call that passed the test of its actuals may rest on
 module _ (a : List ℕ) (c : Command) (F : Fits rights c) (r : Bool) (d : r ≡ all (actual_fits bounded (meaning c) (values_of a)) parameters 0) (t : not r ≡ false) where
@@ -195,35 +198,35 @@ module _ (carriers : List ℕ) (right : ℕ) (m : Matrix) (c : Command) (a : Lis
       pub refused_14 : not r₃ ≡ true → RunBy carriers right m c a (executed_of (Refused 14) m)
       refused_14 t = record { is = λ S M. executed_refused right 14 m m (outcome S) K (let z = sym (d₃.is S M) ∙ not-true r₃ t in rw (passed_12, z)) refl }
 
-      module _ (t₃ : not r₃ ≡ false) (y : Matrix) (w : Ran) (d₄ : RanAs right m a c y w (Unit {0})) where
+      module _ (t₃ : not r₃ ≡ false) (y : Matrix) (w : Option Bool) (d₄ : RanAs right m a c y (ran_told w) (Unit {0})) where
         passed_14 : (S : System) → MetBy S carriers → hold_all S (view m.kinds m.cells) (values_of a) (tabulate (condition_of c) c.conditions 0) ≡ true
         passed_14 S M = sym (d₃.is S M) ∙ not-false r₃ t₃
 
-        pub refused_15 : not w.done ≡ true → RunBy carriers right m c a (executed_of (Refused 15) y)
-        refused_15 t =
-            let e : w.done ≡ false = not-true w.done t in
-            record { is = λ S M. executed_refused right 15 m y (outcome S) K (let z = sym d₄.able ∙ e in rw (passed_12, passed_14 S M, z)) (d₄.none e tt) }
+        pub refused_15 : w ≡ None → RunBy carriers right m c a (executed_of (Refused 15) y)
+        refused_15 e =
+            let d = rw e at d₄ in
+            record { is = λ S M. executed_refused right 15 m y (outcome S) K (let z = sym d.able in rw (passed_12, passed_14 S M, z)) (d.none refl tt) }
 
-        module _ (t₄ : not w.done ≡ false) where
-          is_done : w.done ≡ true
-          is_done = not-false w.done t₄
+        module _ (b : Bool) (e : w ≡ Some b) where
+          did : RanAs right m a c y (ran_told (Some b)) (Unit {0})
+          did = rw e at d₄
 
           ended : (S : System) → MetBy S carriers → outcome S ≡ end
-          ended S M = let z = sym d₄.able ∙ is_done in rw (passed_12, passed_14 S M, z)
+          ended S M = let z = sym did.able in rw (passed_12, passed_14 S M, z)
 
-          finished : (r : Answer) → r ≡ pick w.leaked Leaked Done → RunBy carriers right m c a (executed_of r y)
+          finished : (r : Answer) → r ≡ pick b Leaked Done → RunBy carriers right m c a (executed_of r y)
           finished r ea =
-              let u : r ≡ answer_of right end = ea ∙ ap (λ (b : Bool). pick b Leaked Done) (d₄.leak is_done) in
+              let u : r ≡ answer_of right end = ea ∙ ap (λ (z : Bool). pick z Leaked Done) (did.leak refl) in
               record {
                 is = λ S M. record {
                   answer = u ∙ ap (answer_of right) (sym (ended S M));
-                  state = d₄.state is_done ∙ ap (λ (o : Outcome). after o (state_of m)) (sym (ended S M));
-                  canonical = d₄.canonical;
+                  state = did.state refl ∙ ap (λ (o : Outcome). after o (state_of m)) (sym (ended S M));
+                  canonical = did.canonical;
                 };
               }
 
-          pub done_leaked : w.leaked ≡ true → RunBy carriers right m c a (executed_of Leaked y)
-          done_leaked z = finished Leaked (rw z)
+          pub done_leaked : b ≡ true → RunBy carriers right m c a (executed_of Leaked y)
+          done_leaked t = finished Leaked (rw t)
 
-          pub done_quiet : w.leaked ≡ false → RunBy carriers right m c a (executed_of Done y)
-          done_quiet z = finished Done (rw z)
+          pub done_quiet : b ≡ false → RunBy carriers right m c a (executed_of Done y)
+          done_quiet t = finished Done (rw t)

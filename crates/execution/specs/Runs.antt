@@ -1,8 +1,10 @@
 -- What a rule run answers and leaves.
-use Rattle.std.specs.Prelude.{ℕ, ◌<◌, ◌≡◌, Bool, true, false, List}
+use Rattle.std.specs.Prelude.{ℕ, ◌<◌, ◌≡◌, Bool, true, false, List, Option, Some, None, Result, Ok, Err}
 use Rattle.std.proofs.Math.Option.{some}
 use Rattle.std.proofs.Math.ListN.{get_elem?}
 use Rattle.cases.specs.Cases.{pick}
+use Rattle.refusals.specs.Numbers.{number_of}
+use Rattle.refusals.specs.declared.Refusal.{Refusal}
 use Rattle.protection.specs.Limits.{rights}
 use Rattle.protection.specs.Command.{System, values_of}
 use Rattle.protection.specs.Execution.{can_do_all, effect_all, enters_any_new, Outcome, refused, done, bounded, execute_command}
@@ -18,15 +20,23 @@ use Rattle.commands.specs.declared.Operation.{Operation as CodeOperation}
 use Rattle.policy.specs.Contents.{system_of}
 use Rattle.policy.specs.declared.Policy.{Policy}
 use Rattle.operations.specs.Operations.{Applies}
-use Rattle.execution.specs.declared.Answer.{Answer}
-use Rattle.execution.specs.declared.Answer.TheVariants.{Refused, Done, Leaked}
-use Rattle.execution.specs.declared.Executed.{Executed}
-use Rattle.execution.specs.declared.Ran.{Ran}
+use Rattle.execution.specs.declared.Done.{Done as CodeDone}
+use Rattle.execution.specs.declared.Done.TheVariants.{NoLeak, Leak}
 
 -- the operations have rights that a cell can hold, and their parameters have names
 pub record OperationsApply (a : List ℕ) (c : Command) : Type 0 where
   pub fits : Fits rights c
   pub all : (j : ℕ) (o : CodeOperation) → j < c.operations → step_of o ≡ operation_at c j → Applies a o
+
+-- whether all operations were done, and if so whether one of them entered the right into a cell that lacked it
+pub record Ran : Type 0 where
+  pub done : Bool
+  pub leaked : Bool
+
+-- as the code answers it: with nothing, where one could not be done
+abbrev pub ran_told : Option Bool → Ran
+ran_told None = record { done = false; leaked = false }
+ran_told (Some b) = record { done = true; leaked = b }
 
 -- all operations of the command were done, and y is what they left; or one could not be done, and where `Back` holds y is the matrix as it was
 pub record RanAs (right : ℕ) (m : Matrix) (a : List ℕ) (c : Command) (y : Matrix) (x : Ran) (Back : Type 0) : Type 0 where
@@ -36,7 +46,23 @@ pub record RanAs (right : ℕ) (m : Matrix) (a : List ℕ) (c : Command) (y : Ma
   pub canonical : Canonical rights y.kinds y.cells
   pub none : x.done ≡ false → Back → y ≡ m
 
--- the enum `Answer`: document 01's refusal, or done, with or without a leak of the right
+-- document 01's refusal, or done, with or without a leak of the right
+pub data Answer : Type 0 where
+  Refused : ℕ → Answer
+  Done : Answer
+  Leaked : Answer
+
+-- as the code answers it
+abbrev pub answer_told : Result CodeDone Refusal → Answer
+answer_told (Err r) = Refused (number_of r)
+answer_told (Ok NoLeak) = Done
+answer_told (Ok Leak) = Leaked
+
+-- an answer, and the matrix that was left
+pub record Executed : Type 0 where
+  pub answer : Answer
+  pub matrix : Matrix
+
 abbrev pub answer_of : ℕ → Outcome → Answer
 answer_of right (refused n) = Refused n
 answer_of right (done m new) = pick (new right) Leaked Done

@@ -32,50 +32,34 @@ pub fn actuals_fit(c: Command, a: [u8; Command::PARAMETERS]) -> bool
     requires { Fits rights c }
     ensures { result ≡ all (actual_fits bounded (meaning c) (values_of a)) parameters 0 }
 {
-    for b in 0..Command::PARAMETERS as u8 {
-        if !actual_fits(c, a, b) {
-            return false;
-        }
-    }
-    true
+    (0..Command::PARAMETERS as u8).all(|b| actual_fits(c, a, b))
 }
 
 // Condition j, read over what the cell's rights carry: the sets have those that carry each right.
-fn condition_holds<'a>(
-    kinds: &'a [u8; Matrix::NAMES],
-    cells: &'a [Set; Matrix::NAMES * Matrix::NAMES],
-    carriers: [Set; Matrix::RIGHTS as usize],
+fn condition_holds(
+    matrix: &Matrix,
+    carriers: &[Set; Matrix::RIGHTS as usize],
     c: Command,
     j: usize,
     a: [u8; Command::PARAMETERS],
 ) -> bool
     requires { ConditionApplies a c j }
-    ensures { HeldBy kinds.now cells.now carriers a c j result }
+    ensures { HeldBy matrix.now.kinds matrix.now.cells carriers.now a c j result }
 {
     let q = c.condition[3 * j];
     let s = operations::name_of(a, c.condition[3 * j + 1]);
     let o = operations::name_of(a, c.condition[3 * j + 2]);
-    if matrix::has_cell(kinds, s, o) {
-        return cells[Matrix::NAMES * s + o] & carriers[q as usize] != 0;
-    }
-    false
+    matrix.has_cell(s, o) && matrix.cells[Matrix::NAMES * s + o] & carriers[q as usize] != 0
 }
 
-pub fn conditions_hold<'a>(
-    kinds: &'a [u8; Matrix::NAMES],
-    cells: &'a [Set; Matrix::NAMES * Matrix::NAMES],
-    carriers: [Set; Matrix::RIGHTS as usize],
+pub fn conditions_hold(
+    matrix: &Matrix,
+    carriers: &[Set; Matrix::RIGHTS as usize],
     c: Command,
     a: [u8; Command::PARAMETERS],
 ) -> bool
     requires { ConditionsApply a c }
-    ensures { AllHeldBy kinds.now cells.now carriers a c result }
+    ensures { AllHeldBy matrix.now.kinds matrix.now.cells carriers.now a c result }
 {
-    let n = c.conditions as usize;
-    for j in 0..n {
-        if !condition_holds(kinds, cells, carriers, c, j, a) {
-            return false;
-        }
-    }
-    true
+    (0..c.conditions as usize).all(|j| condition_holds(matrix, carriers, c, j, a))
 }

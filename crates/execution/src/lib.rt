@@ -1,163 +1,104 @@
-// Running a command (document 01: a rule) on lent kinds and cells, and on a matrix by value; refusals 11 to 15.
+// Running a command (document 01: a rule) on a lent matrix; refusals 11 to 15.
 #![tactic(auto)]
 
 ghost use Rattle.std.specs.Prelude.{◌≡◌};
 ghost use Rattle.protection.specs.Limits.{rights};
 ghost use Rattle.matrix.specs.Canonical.{Canonical};
-ghost use Rattle.matrix.specs.Matrices.{matrix_of};
 ghost use Rattle.commands.specs.Fits.{Fits};
 ghost use Rattle.policy.specs.Fits.{PolicyFits};
-ghost use Rattle.execution.specs.Runs.{OperationsApply, RanAs, executed_of, ExecutedAs, RunBy, outcome_of};
+ghost use Rattle.execution.specs.Runs.{OperationsApply, RanAs, ran_told, answer_told, executed_of, ExecutedAs, RunBy, outcome_of};
 
 mod conditions;
 
 use commands::Command;
 use matrix::Matrix;
 use policy::Policy;
+use refusals::Refusal;
 use rights::Set;
 
-// What a rule run comes to: document 01's refusal; done; or done, with the right asked about entered into a cell that lacked it.
-#[derive(Drop)]
-pub enum Answer {
-    Refused(u8),
-    Done,
-    Leaked,
+// A rule run that was done: without or with an enter of the right asked about into a cell that lacked it.
+#[derive(Clone, Copy, PartialEq, Eq)]
+pub enum Done {
+    NoLeak,
+    Leak,
 }
 
-#[derive(Drop)]
-pub struct Executed {
-    pub answer: Answer,
-    pub matrix: Matrix,
-}
-
-// All operations were done; one of them entered the right into a cell that lacked it.
-#[derive(Drop)]
-struct Ran {
-    done: bool,
-    leaked: bool,
-}
-
-// The operations in order, each on what the one before left; those before one that cannot be done stay done.
+// The operations in order, each on what the one before left, and whether one of them entered the right into a cell that lacked it; nothing, where one cannot be done:
+// those before it stay done.
 fn run_operations(
-    kinds: &mut [u8; Matrix::NAMES],
-    cells: &mut [Set; Matrix::NAMES * Matrix::NAMES],
+    matrix: &mut Matrix,
     c: Command,
     a: [u8; Command::PARAMETERS],
     right: u8,
-) -> Ran
-    requires { Canonical rights kinds.old cells.old × OperationsApply a c }
-    ensures { RanAs right (matrix_of kinds.old cells.old) a c (matrix_of kinds.new cells.new) result (c.operations ≡ 1) }
+) -> Option<bool>
+    requires { Canonical rights matrix.old.kinds matrix.old.cells × OperationsApply a c }
+    ensures { RanAs right matrix.old a c matrix.new (ran_told result) (c.operations ≡ 1) }
 {
-    let n = c.operations as usize;
     let mut leaked = false;
-    for j in 0..n {
+    for j in 0..c.operations as usize {
         let operation = c.operation_at(j);
-        if !operations::can_do(kinds, operation, a) {
-            return Ran {
-                done: false,
-                leaked,
-            };
+        if !operations::can_do(matrix, operation, a) {
+            return None;
         }
-        leaked = leaked | operations::enters_new(kinds, cells, operation, a, right);
-        operations::perform(kinds, cells, operation, a);
+        leaked = leaked | operations::enters_new(matrix, operation, a, right);
+        operations::perform(matrix, operation, a);
     }
-    Ran { done: true, leaked }
+    Some(leaked)
 }
 
 // All operations, or none. A single one that cannot be done has changed nothing, so that no copy is kept for it.
-fn run_all(
-    kinds: &mut [u8; Matrix::NAMES],
-    cells: &mut [Set; Matrix::NAMES * Matrix::NAMES],
-    c: Command,
-    a: [u8; Command::PARAMETERS],
-    right: u8,
-) -> Ran
-    requires { Canonical rights kinds.old cells.old × OperationsApply a c }
-    ensures { RanAs right (matrix_of kinds.old cells.old) a c (matrix_of kinds.new cells.new) result (Unit {0}) }
+fn run_all(matrix: &mut Matrix, c: Command, a: [u8; Command::PARAMETERS], right: u8) -> Option<bool>
+    requires { Canonical rights matrix.old.kinds matrix.old.cells × OperationsApply a c }
+    ensures { RanAs right matrix.old a c matrix.new (ran_told result) (Unit {0}) }
 {
     if c.operations == 1 {
-        return run_operations(kinds, cells, c, a, right);
+        return run_operations(matrix, c, a, right);
     }
-    let kept_kinds = *kinds;
-    let kept_cells = *cells;
-    let ran = run_operations(kinds, cells, c, a, right);
-    let done = ran.done;
-    if !done {
-        *kinds = kept_kinds;
-        *cells = kept_cells;
-        return ran;
+    let kept = *matrix;
+    let ran = run_operations(matrix, c, a, right);
+    if ran.is_none() {
+        *matrix = kept;
     }
     ran
 }
 
 // A command with actual parameters: all conditions are tested before the first operation; all operations are done, or none.
 fn run_command(
-    kinds: &mut [u8; Matrix::NAMES],
-    cells: &mut [Set; Matrix::NAMES * Matrix::NAMES],
-    carriers: [Set; Matrix::RIGHTS as usize],
+    matrix: &mut Matrix,
+    carriers: &[Set; Matrix::RIGHTS as usize],
     c: Command,
     a: [u8; Command::PARAMETERS],
     right: u8,
-) -> Answer
-    requires { Canonical rights kinds.old cells.old × Fits rights c }
-    ensures { RunBy carriers right (matrix_of kinds.old cells.old) c a (executed_of result (matrix_of kinds.new cells.new)) }
+) -> Result<Done, Refusal>
+    requires { Canonical rights matrix.old.kinds matrix.old.cells × Fits rights c }
+    ensures { RunBy carriers.now right matrix.old c a (executed_of (answer_told result) matrix.new) }
 {
     if !conditions::actuals_fit(c, a) {
-        return Answer::Refused(12);
+        return Err(Refusal::Actuals);
     }
-    if !conditions::conditions_hold(kinds, cells, carriers, c, a) {
-        return Answer::Refused(14);
+    if !conditions::conditions_hold(matrix, carriers, c, a) {
+        return Err(Refusal::Conditions);
     }
-    let ran = run_all(kinds, cells, c, a, right);
-    let done = ran.done;
-    if !done {
-        return Answer::Refused(15);
+    match run_all(matrix, c, a, right) {
+        None => Err(Refusal::Operations),
+        Some(false) => Ok(Done::NoLeak),
+        Some(true) => Ok(Done::Leak),
     }
-    let leaked = ran.leaked;
-    if leaked {
-        return Answer::Leaked;
-    }
-    Answer::Done
 }
 
-// One call of a command, on the lent kinds and cells.
+// One call of a command, on the lent matrix.
 pub fn call(
-    p: Policy,
-    kinds: &mut [u8; Matrix::NAMES],
-    cells: &mut [Set; Matrix::NAMES * Matrix::NAMES],
+    p: &Policy,
+    matrix: &mut Matrix,
     command: u8,
     a: [u8; Command::PARAMETERS],
     right: u8,
-) -> Answer
-    requires { PolicyFits p × Canonical rights kinds.old cells.old }
-    ensures { ExecutedAs right (outcome_of p (matrix_of kinds.old cells.old) command a) (matrix_of kinds.old cells.old) (executed_of result (matrix_of kinds.new cells.new)) }
+) -> Result<Done, Refusal>
+    requires { PolicyFits p.now × Canonical rights matrix.old.kinds matrix.old.cells }
+    ensures { ExecutedAs right (outcome_of p.now matrix.old command a) matrix.old (executed_of (answer_told result) matrix.new) }
 {
     if p.commands <= command {
-        return Answer::Refused(11);
+        return Err(Refusal::NoCommand);
     }
-    let all = p.command;
-    let i = command as usize;
-    let c = all[i];
-    let carriers = p.carriers;
-    run_command(kinds, cells, carriers, c, a, right)
-}
-
-// The same on a matrix by value.
-pub fn execute(
-    p: Policy,
-    m: Matrix,
-    command: u8,
-    a: [u8; Command::PARAMETERS],
-    right: u8,
-) -> Executed
-    requires { PolicyFits p × Canonical rights m.kinds m.cells }
-    ensures { ExecutedAs right (outcome_of p m command a) m result }
-{
-    let mut kinds = m.kinds;
-    let mut cells = m.cells;
-    let answer = call(p, &mut kinds, &mut cells, command, a, right);
-    Executed {
-        answer,
-        matrix: Matrix { kinds, cells },
-    }
+    run_command(matrix, &p.carriers, p.command[command as usize], a, right)
 }

@@ -1,38 +1,43 @@
 -- The entries of a sheet as bytes, read and written. Assumes nothing.
-use Prim.Native.Nat.{ℕ, suc, ◌+◌, ◌*◌, ◌/◌, ◌%◌, ◌≤◌, ◌<◌}
+use Prim.Native.Nat.{ℕ, suc, ◌+◌, ◌*◌, ◌/◌, ◌%◌, ◌^◌, ◌≤◌, ◌<◌}
 use mathlib.Core.Path.{◌≡◌, refl, sym, ap, ap₂, ◌∙◌, subst}
 use mathlib.Core.Bool.{Bool, true, false}
 use mathlib.Core.List.{List, [], ◌∷◌, ◌++◌, append_assoc}
 use native.Mathlib.Numerals.{add-one}
-use native.Mathlib.Nat.{mul-div-le}
+use native.Mathlib.Nat.{mul-div-le, mod-eq_of_lt}
 use native.Mathlib.Omega.{arith}
 use borrow.Author.Tests.{ltb-false}
 use lib.Dec.{ltb}
-use lib.ListN.{length, get_or, take, drop, set, length-append, length-drop, get_or-eq_default}
+use lib.ListN.{length, get_or, take, drop, set, length-append, length-drop}
 use lib.Seq.{sets-eq, take_at, drop_at, drop-drop, take-suc, length-take-le}
 use Rattle.cases.specs.Cases.{pick, tabulate}
 use Rattle.cases.proofs.Lists.{length_tabulate, take_tabulate}
 use Rattle.sheets.specs.Sheets.{sheet_limit, sheet_refusal, sheet_after, buffer_after, FirstSheeted}
 use Rattle.sheets.specs.declared.Entry.{Entry}
-use Rattle.sheets.specs.declared.Sheet.{Sheet}
+use Rattle.std.specs.Prelude.{Ok, Err}
+use Rattle.refusals.specs.Numbers.{number_of}
+use Rattle.refusals.specs.declared.Refusal.{Refusal}
+use Rattle.refusals.proofs.Codes.{number_above}
 use Rattle.sheets.proofs.Promise.{sheeted, sheet_length}
 use Rattle.exports.specs.Sheet.{entry_at, entries_in, entry_bytes, entries_written, entries_after, SheetAnswer}
 
 -- ---- read
-pub no_entry : (e : List ℕ) (i : ℕ) → length e ≤ 4 * i → ◌≡◌ {A = Entry} (record { right = 0; verdict = 0; count = 0 }) (entry_at e i)
-no_entry e i h = ap (λ (r : ℕ). record { right = r; verdict = 0; count = 0 }) (sym (get_or-eq_default e 0 h))
-
 pub eight_of : (f : ℕ → Entry) (q₀ q₁ q₂ q₃ q₄ q₅ q₆ q₇ : Entry) → q₀ ≡ f 0 → q₁ ≡ f 1 → q₂ ≡ f 2 → q₃ ≡ f 3 → q₄ ≡ f 4 → q₅ ≡ f 5 → q₆ ≡ f 6 → q₇ ≡ f 7
     → q₀ ∷ q₁ ∷ q₂ ∷ q₃ ∷ q₄ ∷ q₅ ∷ q₆ ∷ q₇ ∷ [] ≡ tabulate f 8 0
 eight_of f q₀ q₁ q₂ q₃ q₄ q₅ q₆ q₇ e₀ e₁ e₂ e₃ e₄ e₅ e₆ e₇ = λ i. e₀ i ∷ e₁ i ∷ e₂ i ∷ e₃ i ∷ e₄ i ∷ e₅ i ∷ e₆ i ∷ e₇ i ∷ []
 
 -- ---- written
-pub four_stored : (e : List ℕ) (o a b c d : ℕ) → o + 4 ≤ length e → set (set (set (set e o a) (o + 1) b) (o + 2) c) (o + 3) d ≡ take o e ++ ((a ∷ b ∷ c ∷ d ∷ []) ++ drop (o + 4) e)
+four_stored : (e : List ℕ) (o a b c d : ℕ) → o + 4 ≤ length e → set (set (set (set e o a) (o + 1) b) (o + 2) c) (o + 3) d ≡ take o e ++ ((a ∷ b ∷ c ∷ d ∷ []) ++ drop (o + 4) e)
 four_stored e o a b c d h =
     let e₁ : o + 1 ≡ suc o = omega arith in
     let e₂ : o + 2 ≡ suc (suc o) = omega arith in
     let e₃ : o + 3 ≡ suc (suc (suc o)) = omega arith in
     rw (e₁, e₂, e₃) (sets-eq (a ∷ b ∷ c ∷ d ∷ []) e o h ∙ append_assoc (take o e) (a ∷ b ∷ c ∷ d ∷ []) (drop (o + 4) e))
+
+-- an entry's bytes, of its count the low one first
+pub entry_stored : (e : List ℕ) (o a b n : ℕ) (x : List ℕ) → n < 2 ^ 16 → x ≡ n % 256 ∷ (n / 256) % 256 ∷ [] → o + 4 ≤ length e
+    → set (set (set (set e o a) (o + 1) b) (o + 2) (get_or x 0 0)) (o + 3) (get_or x 1 0) ≡ take o e ++ ((a ∷ b ∷ n % 256 ∷ n / 256 ∷ []) ++ drop (o + 4) e)
+entry_stored e o a b n x s d h = let z : (n / 256) % 256 ≡ n / 256 = mod-eq_of_lt (omega arith) in rw d (rw z (four_stored e o a b (n % 256) (n / 256) h))
 
 bytes_length : (s : List Entry) → length (entry_bytes s) ≡ 4 * length s
 bytes_length [] = refl
@@ -67,7 +72,7 @@ module _ (s : List Entry) (e : List ℕ) (i : ℕ) (e' : List ℕ) (is : e' ≡ 
   written_end n l m k = let h : i ≡ n = omega arith in is ∙ ap (λ (j : ℕ). entry_bytes (take j s) ++ drop (4 * j) e) h ∙ ap (λ (j : ℕ). entry_bytes (take n s) ++ drop (4 * j) e) (sym (length-take-le n s k))
 
 -- ---- a sheet of n entries, of which e has the first eight, asked and answered
-module _ (f e b : List ℕ) (n : ℕ) (n-is : n ≡ length e / 4) (asked : List Entry) (Asked-is : asked ≡ tabulate (entry_at e) 8 0) (x : Sheet) (b' : List ℕ) (F : FirstSheeted f asked n b x b') where
+module _ (f e b : List ℕ) (n : ℕ) (n-is : n ≡ length e / 4) (asked : List Entry) (Asked-is : asked ≡ tabulate (entry_at e) 8 0) (b' : List ℕ) where
   abbrev s : List Entry
   s = entries_in e
 
@@ -75,23 +80,23 @@ module _ (f e b : List ℕ) (n : ℕ) (n-is : n ≡ length e / 4) (asked : List 
   many = length_tabulate (entry_at e) (length e / 4) 0 ∙ sym n-is
 
   -- more than eight: 43
-  pub entries_refused : (x.refused ≡ 0 → ⊥) → SheetAnswer f e b x.refused e b'
+  pub entries_refused : (by : Refusal) → FirstSheeted f asked n b (Err by) b' → (r : ℕ) → r ≡ number_of by → SheetAnswer f e b r e b'
   unfolding sheet_refusal sheet_after buffer_after entries_after
-  entries_refused more = go (ltb sheet_limit n) refl F.refused_is F.buffer_is
+  entries_refused by F r r-is = go (ltb sheet_limit n) refl (r-is ∙ F.refused_is) F.buffer_is
     where
-      go : (c : Bool) → ltb sheet_limit n ≡ c → x.refused ≡ pick c 43 0 → b' ≡ pick c b (buffer_after f (take n asked) b) → SheetAnswer f e b x.refused e b'
-      go true z r d =
+      go : (c : Bool) → ltb sheet_limit n ≡ c → r ≡ pick c 43 0 → b' ≡ pick c b (buffer_after f (take n asked) b) → SheetAnswer f e b r e b'
+      go true z q d =
           let w : ltb sheet_limit (length s) ≡ true = ap (ltb sheet_limit) many ∙ z in
-          record { entries_are = rw (← n-is, z); sheeted = sheeted f s b x.refused (sheet_after f s b) b' (rw w r) refl (rw w d) }
-      go false z r d = absurd (more r)
+          record { entries_are = rw (← n-is, z); sheeted = sheeted f s b r (sheet_after f s b) b' (rw w q) refl (rw w d) }
+      go false z q d = absurd (let a = number_above by in omega arith)
 
   -- else every entry has its answer
-  module _ (none : x.refused ≡ 0) where
+  module _ (after : List Entry) (F : FirstSheeted f asked n b (Ok after) b') where
     within : ltb sheet_limit n ≡ false
     within = go (ltb sheet_limit n) F.refused_is
       where
-        go : (c : Bool) → x.refused ≡ pick c 43 0 → c ≡ false
-        go true r = absurd (let z : 0 ≡ 43 = sym none ∙ r in omega arith)
+        go : (c : Bool) → ◌≡◌ {A = ℕ} 0 (pick c 43 0) → c ≡ false
+        go true r = absurd (omega arith)
         go false r = refl
 
     pub entries_few : n ≤ 8
@@ -103,24 +108,24 @@ module _ (f e b : List ℕ) (n : ℕ) (n-is : n ≡ length e / 4) (asked : List 
     first_is : take n asked ≡ s
     first_is = ap (take n) Asked-is ∙ take_tabulate (entry_at e) n 8 0 entries_few ∙ ap (λ (k : ℕ). tabulate (entry_at e) k 0) n-is
 
-    after_is : x.entries ≡ sheet_after f s b ++ drop n asked
-    after_is = F.entries_are ∙ ap (λ (c : Bool). pick c asked (sheet_after f (take n asked) b ++ drop n asked)) within ∙ ap (λ (t : List Entry). sheet_after f t b ++ drop n asked) first_is
+    after_is : after ≡ sheet_after f s b ++ drop n asked
+    after_is = F.entries_are ∙ ap (λ (t : List Entry). sheet_after f t b ++ drop n asked) first_is
 
     after_long : length (sheet_after f s b) ≡ n
     after_long = sheet_length f s b ∙ many
 
-    pub entries_eight : length x.entries ≡ 8
+    pub entries_eight : length after ≡ 8
     entries_eight =
         let a = ap length after_is ∙ length-append (sheet_after f s b) (drop n asked) in
         let c = length-drop n asked in
         let d = ap length Asked-is ∙ length_tabulate (entry_at e) 8 0 in
         let g = after_long in let h = entries_few in omega arith
 
-    pub entries_answered : (e' : List ℕ) → e' ≡ entries_written (take n x.entries) e → SheetAnswer f e b 0 e' b'
+    pub entries_answered : (e' : List ℕ) → e' ≡ entries_written (take n after) e → SheetAnswer f e b 0 e' b'
     unfolding sheet_refusal entries_after
     entries_answered e' is =
         let w : ltb sheet_limit (length s) ≡ false = ap (ltb sheet_limit) many ∙ within in
-        let front : take n x.entries ≡ sheet_after f s b = ap (take n) after_is ∙ take_at (sheet_after f s b) (drop n asked) n after_long in
+        let front : take n after ≡ sheet_after f s b = ap (take n) after_is ∙ take_at (sheet_after f s b) (drop n asked) n after_long in
         record {
           entries_are = is ∙ ap (λ (t : List Entry). entries_written t e) front ∙ rw (← n-is, within);
           sheeted = sheeted f s b 0 (sheet_after f s b) b' (rw w) refl (F.buffer_is ∙ ap (λ (c : Bool). pick c b (buffer_after f (take n asked) b)) within ∙ ap (λ (t : List Entry). buffer_after f t b) first_is);

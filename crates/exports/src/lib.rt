@@ -1,4 +1,4 @@
-// The C boundary: numbers and byte slices, no `requires`. A slice is passed as a pointer and a length.
+// The C boundary: numbers and byte slices, no `requires`. A slice is passed as a pointer and a length, and C has no `Result`: a refusal is its number here.
 #![tactic(auto)]
 
 ghost use Rattle.std.specs.Prelude.{◌≡◌, [], ◌∷◌, ◌++◌, ◌+◌, ◌*◌, ◌≤◌, ◌<◌, length, take, drop};
@@ -6,7 +6,7 @@ ghost use Rattle.cases.specs.Cases.{tabulate};
 ghost use Rattle.policy.specs.Refusals.{refusal};
 ghost use Rattle.update.specs.Files.{FileRun};
 ghost use Rattle.trace.specs.Replays.{file_replay};
-ghost use Rattle.safety.specs.Demand3.{steps_written};
+ghost use Rattle.safety.specs.Demand3.{steps_written, judgement_told};
 ghost use Rattle.safety.specs.Judgement.{judgement_code};
 ghost use Rattle.exports.specs.Replay.{ReplayAnswer};
 ghost use Rattle.exports.specs.Judge.{JudgeAnswer};
@@ -15,17 +15,16 @@ ghost use Rattle.exports.specs.Need.{NeedAnswer};
 ghost use Rattle.exports.specs.Sheet.{entry_at, entry_bytes, entries_written, SheetAnswer};
 
 use needs::Need;
-use safety::Judgement;
+use refusals::Refusal;
+use safety::Verdict;
 use sheets::Entry;
-use trace::Replay;
 
 // The refusal of whoever wrote the file, 1 to 9 or 44, or 0.
 #[unsafe(no_mangle)]
 pub extern "C" fn access_check(file: &[u8]) -> u8
     ensures { result ≡ refusal file.now }
 {
-    let read = policy::read_policy(file);
-    read.refused
+    refusals::code_of(&policy::read_policy(file))
 }
 
 // Runs a command (document 01: a rule) on the file: 0 done, else the refusal, with the file as it was.
@@ -33,7 +32,7 @@ pub extern "C" fn access_check(file: &[u8]) -> u8
 pub extern "C" fn access_run(file: &mut [u8], command: u8, a0: u8, a1: u8, a2: u8, a3: u8) -> u8
     ensures { FileRun file.old (record { command = command; a0 = a0; a1 = a1; a2 = a2; a3 = a3 }) result file.new }
 {
-    update::run(file, command, a0, a1, a2, a3)
+    refusals::code_of(&update::run(file, command, a0, a1, a2, a3))
 }
 
 // The answers for a leak: a replay's, and the judge's; and for a need that is met.
@@ -48,37 +47,36 @@ const HELD: u8 = LEAK;
 pub extern "C" fn access_replay(file: &[u8], steps: &[u8], right: u8, step: &mut u64) -> u8
     ensures { ReplayAnswer (file_replay file.now steps.now right) result step.new }
 {
-    let replay = trace::replay_file(file, steps, right);
-    match replay {
-        Replay::NoLeak => {
+    match trace::replay_file(file, steps, right) {
+        Ok(None) => {
             *step = 0;
             0
         }
-        Replay::Leak(i) => {
+        Ok(Some(i)) => {
             *step = i as u64;
             LEAK
         }
-        Replay::Refused { by, step: i } => {
-            *step = i as u64;
-            by
+        Err(refused) => {
+            *step = refused.step as u64;
+            refused.by.number()
         }
     }
 }
 
 // A judgement as two numbers: 0 safe, 255 unsafe, both with the number of steps written, else the refusal, with 0 steps.
-fn numbers(judgement: Judgement, steps: &mut u64) -> u8
-    ensures { (result ≡ judgement_code judgement) × (steps.new ≡ steps_written judgement) }
+fn numbers(judgement: Result<Verdict, Refusal>, steps: &mut u64) -> u8
+    ensures { (result ≡ judgement_code (judgement_told judgement)) × (steps.new ≡ steps_written (judgement_told judgement)) }
 {
     match judgement {
-        Judgement::Refused(n) => {
+        Err(by) => {
             *steps = 0;
-            n
+            by.number()
         }
-        Judgement::Safe(n) => {
+        Ok(Verdict::Safe(n)) => {
             *steps = n as u64;
             0
         }
-        Judgement::Unsafe(n) => {
+        Ok(Verdict::Unsafe(n)) => {
             *steps = n as u64;
             UNSAFE
         }
@@ -115,17 +113,16 @@ pub extern "C" fn access_judge_part(
 pub extern "C" fn access_need(file: &[u8], list: &[u8], buffer: &mut [u8], steps: &mut u64) -> u8
     ensures { NeedAnswer file.now list.now buffer.old result steps.new buffer.new }
 {
-    let need = needs::need_file(file, list, buffer);
-    match need {
-        Need::Refused(n) => {
+    match needs::need_file(file, list, buffer) {
+        Err(reason) => {
             *steps = 0;
-            n
+            reason.number()
         }
-        Need::Held(n) => {
+        Ok(Need::Held(n)) => {
             *steps = n as u64;
             HELD
         }
-        Need::Never(n) => {
+        Ok(Need::Never(n)) => {
             *steps = n as u64;
             0
         }
@@ -140,16 +137,9 @@ fn entry_at(entries: &[u8], i: usize) -> Entry
     requires { i < 8 }
     ensures { result ≡ entry_at entries.now i }
 {
-    let at = ENTRY * i;
-    if at < entries.len() {
-        return Entry {
-            right: entries[at],
-            verdict: 0,
-            count: 0,
-        };
-    }
+    let right = entries.get(ENTRY * i).copied().unwrap_or(0);
     Entry {
-        right: 0,
+        right,
         verdict: 0,
         count: 0,
     }
@@ -179,8 +169,7 @@ fn write_entry(entries: &mut [u8], i: usize, q: Entry)
     let at = ENTRY * i;
     entries[at] = q.right;
     entries[at + 1] = q.verdict;
-    entries[at + 2] = (q.count % 256) as u8;
-    entries[at + 3] = (q.count / 256) as u8;
+    [entries[at + 2], entries[at + 3]] = q.count.to_le_bytes();
 }
 
 // The first n entries, as bytes.
@@ -189,8 +178,7 @@ fn write_entries(entries: &mut [u8], sheet: [Entry; Entry::SHEET], n: usize)
     ensures { entries.new ≡ entries_written (take n sheet) entries.old }
 {
     for i in 0..n {
-        let q = sheet[i];
-        write_entry(entries, i, q);
+        write_entry(entries, i, sheet[i]);
     }
 }
 
@@ -201,12 +189,11 @@ pub extern "C" fn access_sheet(file: &[u8], entries: &mut [u8], buffer: &mut [u8
 {
     let n = entries.len() / ENTRY;
     let asked = entries_in(entries);
-    let sheet = sheets::sheet_of(file, asked, n, buffer);
-    let refused = sheet.refused;
-    if refused != 0 {
-        return refused;
+    match sheets::sheet_of(file, asked, n, buffer) {
+        Err(by) => by.number(),
+        Ok(answered) => {
+            write_entries(entries, answered, n);
+            0
+        }
     }
-    let answered = sheet.entries;
-    write_entries(entries, answered, n);
-    0
 }

@@ -1,19 +1,18 @@
 -- A list of cells as a goal. Assumes nothing.
 use Prim.Native.Nat.{ℕ, ◌+◌, ◌*◌, ◌-◌, ◌/◌, ◌≤◌, ◌<◌}
-use mathlib.Core.Path.{◌≡◌, refl, sym, ap, ◌∙◌}
-use mathlib.Core.Bool.{false}
+use mathlib.Core.Path.{◌≡◌, refl}
 use mathlib.Core.List.{List, ◌++◌}
 use native.Mathlib.Omega.{arith}
-use lib.ListN.{length, get_or, replicate, take, drop, get_or-append}
+use lib.ListN.{length, get_or, replicate, drop, get_or-append}
 use Rattle.cases.proofs.Lists.{tabulate_same}
-use Rattle.protection.specs.Need.{Cell}
 use Rattle.commands.specs.Contents.{padded}
 use Rattle.commands.proofs.Contents.{copied}
 use Rattle.goals.specs.Goals.{cell_limit, needed_at, cells_in, needed_by, held_goal}
+use Rattle.goals.specs.declared.End.TheVariants.{Held}
 use Rattle.goals.specs.declared.Goal.{Goal}
 
 pub held_copied : (l x : List ℕ) → length l ≤ 24 → x ≡ l
-    → ◌≡◌ {A = Goal} (record { judged = false; right = 0; count = length l / 3; cells = x ++ drop (length l) (replicate 24 0); reserved = 0 }) (held_goal l)
+    → ◌≡◌ {A = Goal} (record { end = Held (record { count = length l / 3; cells = x ++ drop (length l) (replicate 24 0) }); reserved = 0 }) (held_goal l)
 held_copied l x h e = rw (copied 24 (length l) l x h refl e)
 
 pub held_cell : (l : List ℕ) (j : ℕ) → j < length l / 3 → needed_at (padded (3 * cell_limit) l) j ≡ needed_at l j

@@ -4,18 +4,28 @@
 ghost use Rattle.std.specs.Prelude.{◌≡◌, ◌*◌, ◌≤◌, length};
 ghost use Rattle.protection.specs.Need.{holds_all};
 ghost use Rattle.matrix.specs.Bytes.{view, rights_in};
-ghost use Rattle.goals.specs.Goals.{cell_limit, CellFits, GoalFits, needed_at, needed_by, leak_goal, held_goal, question_of, ends_by};
+ghost use Rattle.goals.specs.Goals.{cell_limit, CellFits, NeededFits, GoalFits, needed_at, needed_in, leak_goal, held_goal, question_of, ends_by};
 
 use matrix::Matrix;
-use rights::Set;
 
-// A right is judged, or the first cells of a list, three bytes each, are needed; and names, as digits of a mask, that a create may not take.
+// Cells of a list, three bytes each: the first `count` of them are needed.
 #[derive(Clone, Copy)]
-pub struct Goal {
-    pub judged: bool,
-    pub right: u8,
+pub struct Needed {
     pub count: usize,
     pub cells: [u8; 3 * Goal::CELLS],
+}
+
+// An enter of a right, or a matrix that holds all cells of a list.
+#[derive(Clone, Copy)]
+pub enum End {
+    Leak(u8),
+    Held(Needed),
+}
+
+// What ends the rounds; and names, as digits of a mask, that a create may not take.
+#[derive(Clone, Copy)]
+pub struct Goal {
+    pub end: End,
     pub reserved: u32,
 }
 
@@ -28,10 +38,7 @@ impl Goal {
         ensures { result ≡ leak_goal reserved right }
     {
         Goal {
-            judged: true,
-            right,
-            count: 0,
-            cells: [0u8; 3 * Goal::CELLS],
+            end: End::Leak(right),
             reserved,
         }
     }
@@ -44,78 +51,53 @@ impl Goal {
         let mut cells = [0u8; 3 * Goal::CELLS];
         cells[..list.len()].copy_from_slice(list);
         Goal {
-            judged: false,
-            right: 0,
-            count: list.len() / 3,
-            cells,
+            end: End::Held(Needed {
+                count: list.len() / 3,
+                cells,
+            }),
             reserved: 0,
         }
     }
 }
 
 // Cell j of the list is held.
-fn cell_held<'a>(
-    list: &'a [u8; 3 * Goal::CELLS],
-    j: usize,
-    kinds: &'a [u8; Matrix::NAMES],
-    cells: &'a [Set; Matrix::NAMES * Matrix::NAMES],
-) -> bool
+fn cell_held(list: &[u8; 3 * Goal::CELLS], j: usize, matrix: &Matrix) -> bool
     requires { CellFits list.now j }
-    ensures { result ≡ rights_in kinds.now cells.now (needed_at list.now j).subject (needed_at list.now j).object (needed_at list.now j).right }
+    ensures { result ≡ rights_in matrix.now.kinds matrix.now.cells (needed_at list.now j).subject (needed_at list.now j).object (needed_at list.now j).right }
 {
     let at = 3 * j;
     let q = list[at];
     let s = list[at + 1] as usize;
     let o = list[at + 2] as usize;
-    operations::cell_holds(kinds, cells, q, s, o)
+    operations::cell_holds(matrix, q, s, o)
 }
 
 // All cells of the list are held.
-fn all_held<'a>(
-    goal: Goal,
-    kinds: &'a [u8; Matrix::NAMES],
-    cells: &'a [Set; Matrix::NAMES * Matrix::NAMES],
-) -> bool
-    requires { GoalFits goal }
-    ensures { result ≡ holds_all (needed_by goal) (view kinds.now cells.now) }
+fn all_held(needed: Needed, matrix: &Matrix) -> bool
+    requires { NeededFits needed }
+    ensures { result ≡ holds_all (needed_in needed) (view matrix.now.kinds matrix.now.cells) }
 {
-    let n = goal.count;
-    let list = goal.cells;
-    for j in 0..n {
-        if !cell_held(&list, j, kinds, cells) {
-            return false;
-        }
-    }
-    true
+    (0..needed.count).all(|j| cell_held(&needed.cells, j, matrix))
 }
 
 // The rounds are ended before their first step: the start holds all that is needed.
-pub fn at_start<'a>(
-    goal: Goal,
-    kinds: &'a [u8; Matrix::NAMES],
-    cells: &'a [Set; Matrix::NAMES * Matrix::NAMES],
-) -> bool
+pub fn at_start(goal: Goal, matrix: &Matrix) -> bool
     requires { GoalFits goal }
-    ensures { result ≡ (question_of goal).at_start (view kinds.now cells.now) }
+    ensures { result ≡ (question_of goal).at_start (view matrix.now.kinds matrix.now.cells) }
 {
-    if goal.judged {
-        return false;
+    match goal.end {
+        End::Leak(_) => false,
+        End::Held(needed) => all_held(needed, matrix),
     }
-    all_held(goal, kinds, cells)
 }
 
-// An enter of q into a cell that lacked it, which left these kinds and cells, ends the rounds.
-pub fn ended<'a>(
-    goal: Goal,
-    q: u8,
-    kinds: &'a [u8; Matrix::NAMES],
-    cells: &'a [Set; Matrix::NAMES * Matrix::NAMES],
-) -> bool
+// An enter of q into a cell that lacked it, which left this matrix, ends the rounds.
+pub fn ended(goal: Goal, q: u8, matrix: &Matrix) -> bool
     requires { GoalFits goal }
-    ensures { result ≡ ends_by goal q (view kinds.now cells.now) }
+    ensures { result ≡ ends_by goal q (view matrix.now.kinds matrix.now.cells) }
 {
-    if goal.judged {
-        return q == goal.right;
+    match goal.end {
+        End::Leak(right) => q == right,
+        End::Held(needed) => all_held(needed, matrix),
     }
-    all_held(goal, kinds, cells)
 }

@@ -2,10 +2,12 @@
 #![tactic(auto)]
 
 ghost use Rattle.std.specs.Prelude.{◌≡◌, ◌+◌, ◌*◌, ◌≤◌, ◌<◌, length};
+ghost use Rattle.refusals.specs.Numbers.{code};
 ghost use Rattle.layout.specs.File.{words, word, rights_of, pairs_of, fixed_pairs};
 ghost use Rattle.layout.specs.Refusals.{header_refusal, pairs_refusal, sizes_refusal};
 
 use matrix::Matrix;
+use refusals::Refusal;
 
 // Bytes of a file.
 pub const BYTES: usize = 4096;
@@ -21,34 +23,34 @@ const FEWEST: u8 = FIXED as u8;
 
 const MOST: u8 = FEWEST + COMMANDS as u8;
 
-// The refusal of the first bytes, or 0.
-pub fn header_refusal(file: &[u8]) -> u8
-    ensures { result ≡ header_refusal file.now }
+// The first bytes fit: how many bytes there are, rights and pairs.
+pub fn check_header(file: &[u8]) -> Result<(), Refusal>
+    ensures { code result ≡ header_refusal file.now }
 {
     if file.len() < 2 {
-        return 1;
+        return Err(Refusal::FileLength);
     }
     if BYTES < file.len() {
-        return 1;
+        return Err(Refusal::FileLength);
     }
     let g = file[0];
     if g < 1 {
-        return 2;
+        return Err(Refusal::RightCount);
     }
     if Matrix::RIGHTS < g {
-        return 2;
+        return Err(Refusal::RightCount);
     }
     let n = file[1];
     if n < FEWEST {
-        return 3;
+        return Err(Refusal::PairCount);
     }
     if MOST < n {
-        return 3;
+        return Err(Refusal::PairCount);
     }
     if file.len() < 2 + 4 * (n as usize) {
-        return 1;
+        return Err(Refusal::FileLength);
     }
-    0
+    Ok(())
 }
 
 // A 16-bit value, low byte first.
@@ -56,45 +58,42 @@ pub fn word_at(file: &[u8], at: usize) -> usize
     requires { at + 2 ≤ length file.now }
     ensures { (result ≡ word file.now at) × (result < words) }
 {
-    (file[at] as usize) + 256 * (file[at + 1] as usize)
+    usize::from(u16::from_le_bytes([file[at], file[at + 1]]))
 }
 
-// The refusal of the table of pairs, or 0.
-pub fn pairs_refusal(file: &[u8], pairs: usize) -> u8
+// The pairs fit: each section begins where the one before ends, and the last ends with the file.
+pub fn check_pairs(file: &[u8], pairs: usize) -> Result<(), Refusal>
     requires { (pairs ≡ pairs_of file.now) × (2 + 4 * pairs ≤ length file.now) }
-    ensures { result ≡ pairs_refusal file.now }
+    ensures { code result ≡ pairs_refusal file.now }
 {
     let mut at = 2 + 4 * pairs;
     for i in 0..pairs {
         let p = 2 + 4 * i;
         let offset = word_at(file, p);
         if offset != at {
-            return 4;
+            return Err(Refusal::SectionPlace);
         }
         at = offset + word_at(file, p + 2);
     }
     if at != file.len() {
-        return 4;
+        return Err(Refusal::SectionPlace);
     }
-    0
+    Ok(())
 }
 
-// The refusal of the lengths of kinds, cells and carries, or 0.
-pub fn sizes_refusal(file: &[u8], g: u8) -> u8
+// The lengths of kinds, cells and carries fit.
+pub fn check_sizes(file: &[u8], g: u8) -> Result<(), Refusal>
     requires { (g ≡ rights_of file.now) × (2 + 4 * fixed_pairs ≤ length file.now) }
-    ensures { result ≡ sizes_refusal file.now }
+    ensures { code result ≡ sizes_refusal file.now }
 {
-    let kinds = word_at(file, 4);
-    if kinds != Matrix::NAMES {
-        return 5;
+    if word_at(file, 4) != Matrix::NAMES {
+        return Err(Refusal::SectionLength);
     }
-    let cells = word_at(file, 8);
-    if cells != rights::bytes::SIZE * (Matrix::NAMES * Matrix::NAMES) {
-        return 5;
+    if word_at(file, 8) != rights::bytes::SIZE * (Matrix::NAMES * Matrix::NAMES) {
+        return Err(Refusal::SectionLength);
     }
-    let carries = word_at(file, 12);
-    if carries != rights::bytes::SIZE * (g as usize) {
-        return 5;
+    if word_at(file, 12) != rights::bytes::SIZE * (g as usize) {
+        return Err(Refusal::SectionLength);
     }
-    0
+    Ok(())
 }

@@ -7,7 +7,7 @@ use native.Mathlib.Omega.{arith}
 use borrow.Author.Tests.{ltb-false, ltb-true}
 use lib.Dec.{ltb, leb}
 use Rattle.cases.specs.Cases.{pick}
-use Rattle.protection.specs.Limits.{rights, start_names}
+use Rattle.protection.specs.Limits.{start_names}
 use Rattle.protection.specs.Size.{names_of, step_bound}
 use Rattle.layout.specs.File.{rights_of}
 use Rattle.layout.specs.Refusals.{or_else}

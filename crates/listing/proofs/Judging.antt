@@ -5,26 +5,42 @@ use mathlib.Core.Bool.{Bool, true, false}
 use mathlib.Core.List.{List, [], ◌∷◌}
 use native.Mathlib.Decide.{ℕ_discrete}
 use native.Mathlib.Omega.{arith}
-use borrow.Author.Tests.{lt-ltb, le-ltb}
+use borrow.Author.Tests.{lt-ltb, le-ltb, ne_eqb}
 use lib.Dec.{ltb}
 use lib.ListN.{length, get_or, take, drop, length-append}
 use lib.Seq.{take_all, length-take-le}
 use Rattle.cases.specs.Cases.{pick}
 use Rattle.protection.specs.Command.{Call}
-use Rattle.policy.specs.Contents.{policy_of, policy_read, over}
+use Rattle.std.specs.Prelude.{Ok}
+use Rattle.refusals.specs.Numbers.{number_of}
+use Rattle.refusals.specs.declared.Refusal.{Refusal}
+use Rattle.refusals.proofs.Codes.{number_above}
+use Rattle.policy.specs.Refusals.{refusal}
+use Rattle.policy.specs.Contents.{policy_of, over}
 use Rattle.policy.specs.declared.Policy.{Policy}
-use Rattle.policy.specs.declared.PolicyRead.{PolicyRead}
-use Rattle.policy.proofs.Laws.{read_refusal, read_policy}
 use Rattle.trace.specs.Traces.{calls}
-use Rattle.safety.specs.Demand3.{steps_written}
+use Rattle.safety.specs.Demand3.{Judgement, Refused, Safe, Unsafe, steps_written}
+use Rattle.safety.specs.Conclusion.{ReadOf}
 use Rattle.safety.specs.Judgement.{judge_refusal, file_verdict, file_judgement, bytes_of, filled, Judged}
-use Rattle.safety.specs.declared.Judgement.{Judgement}
-use Rattle.safety.specs.declared.Judgement.TheVariants.{Safe, Unsafe}
-use Rattle.safety.proofs.Refusals.{none_refused, judges, refuses, fills}
+use Rattle.safety.proofs.Refusals.{judges, refuses, fills}
 use Rattle.safety.proofs.Buffers.{bytes_length, calls_back}
 use Rattle.listing.specs.Listing.{head, refused_word, buffer_bytes, printed, listing}
 use Rattle.questions.specs.Refusals.{most_steps}
 use Rattle.listing.specs.Writing.{Put, Room, listing_bytes, Answered}
+
+-- ---- a file that the reader refuses
+refused_listing : (f : List ℕ) (r : ℕ) (by : Refusal) → number_of by ≡ refusal f → listing (r ∷ f) ≡ head refused_word (number_of by)
+unfolding judge_refusal
+refused_listing f r by d =
+    let some : refusal f ≡ 0 → ⊥ = λ z. let a = number_above by in omega arith in
+    let first : judge_refusal f r buffer_bytes ≡ number_of by = rw (ne_eqb (refusal f) 0 some) (sym d) in
+    ap (λ (i : Judgement). printed (policy_of f) i (file_verdict f r).steps) (refuses f r buffer_bytes (λ z. some (d' z first)) ∙ ap Refused first)
+  where
+    d' : judge_refusal f r buffer_bytes ≡ 0 → judge_refusal f r buffer_bytes ≡ number_of by → refusal f ≡ 0
+    d' z e = sym d ∙ sym e ∙ z
+
+pub refused_put : (f : List ℕ) (r : ℕ) (by : Refusal) → number_of by ≡ refusal f → (o o' : List ℕ) (n : ℕ) → Put o 0 (head refused_word (number_of by)) n o' → Put o 0 (listing (r ∷ f)) n o'
+refused_put f r by d o o' n q = subst (λ (l : List ℕ). Put o 0 l n o') (sym (refused_listing f r by d)) q
 
 -- ---- the judgement, its count and its steps
 count_of : (u : Bool) (n : ℕ) → steps_written (pick u (Unsafe n) (Safe n)) ≡ n
@@ -32,7 +48,7 @@ count_of true n = refl
 count_of false n = refl
 
 -- a verdict's answer needs its steps only, and a refusal nothing
-module _ (f : List ℕ) (r : ℕ) (b : List ℕ) (j : Judgement) (b' : List ℕ) (x : PolicyRead) (d : x ≡ policy_read f) (told : (g : List ℕ) → x ≡ policy_read g → Judged g r b j b') (e : length b ≡ buffer_bytes) where
+module _ (f : List ℕ) (r : ℕ) (b : List ℕ) (j : Judgement) (b' : List ℕ) (p : Policy) (d : ReadOf f (Ok p)) (told : (g : List ℕ) → ReadOf g (Ok p) → Judged g r b j b') (e : length b ≡ buffer_bytes) where
   J : Judged f r b j b'
   J = told f d
 
@@ -73,18 +89,17 @@ module _ (f : List ℕ) (r : ℕ) (b : List ℕ) (j : Judgement) (b' : List ℕ)
       go (no n) = let k = none_written n in record { few = omega arith; steps = omega arith; lines = l }
 
   -- what is printed is the listing
-  prints : printed x.policy j (calls b' (steps_written j)) ≡ listing (r ∷ f)
+  prints : printed p j (calls b' (steps_written j)) ≡ listing (r ∷ f)
   prints = go (ℕ_discrete (judge_refusal f r buffer_bytes) 0)
     where
-      go : Dec (judge_refusal f r buffer_bytes ≡ 0) → printed x.policy j (calls b' (steps_written j)) ≡ listing (r ∷ f)
+      go : Dec (judge_refusal f r buffer_bytes ≡ 0) → printed p j (calls b' (steps_written j)) ≡ listing (r ∷ f)
       go (yes z) =
-          let p : x.policy ≡ policy_of f = read_policy f x d (read_refusal f x d ∙ (none_refused f r buffer_bytes z).0) in
-          ap₂ (λ (q : Policy) (l : List Call). printed q j l) p (steps_are z) ∙ ap (λ (i : Judgement). printed (policy_of f) i (file_verdict f r).steps) given
+          ap₂ (λ (q : Policy) (l : List Call). printed q j l) d.read (steps_are z) ∙ ap (λ (i : Judgement). printed (policy_of f) i (file_verdict f r).steps) given
       go (no n) =
-          ap (λ (i : Judgement). printed x.policy i (calls b' (steps_written j))) (given ∙ refuses f r buffer_bytes n)
+          ap (λ (i : Judgement). printed p i (calls b' (steps_written j))) (given ∙ refuses f r buffer_bytes n)
           ∙ sym (ap (λ (i : Judgement). printed (policy_of f) i (file_verdict f r).steps) (refuses f r buffer_bytes n))
 
-  pub judged_put : (o o' : List ℕ) (n : ℕ) → Put o 0 (printed x.policy j (calls b' (steps_written j))) n o' → Put o 0 (listing (r ∷ f)) n o'
+  pub judged_put : (o o' : List ℕ) (n : ℕ) → Put o 0 (printed p j (calls b' (steps_written j))) n o' → Put o 0 (listing (r ∷ f)) n o'
   judged_put o o' n q = subst (λ (l : List ℕ). Put o 0 l n o') prints q
 
 -- ---- the answer to any input

@@ -1,10 +1,10 @@
 -- The lines of the steps in a buffer. Assumes nothing.
 use Prim.Native.Nat.{ℕ, zero, suc, ◌+◌, ◌*◌, ◌≤◌}
 use mathlib.Core.Path.{◌≡◌, sym, ap, ◌∙◌, subst}
-use mathlib.Core.List.{List, [], ◌∷◌, ◌++◌, map, append_assoc, append-nil}
+use mathlib.Core.List.{List, [], ◌∷◌, ◌++◌, append_assoc, append-nil}
 use native.Mathlib.Numerals.{add-one}
 use native.Mathlib.Omega.{arith}
-use lib.ListN.{length, get_or, get_or-eq_default, length-map}
+use lib.ListN.{length, get_or, get_or-eq_default}
 use Rattle.cases.specs.Cases.{tabulate}
 use Rattle.protection.specs.Command.{Call}
 use Rattle.commands.specs.Contents.{missing}
@@ -15,9 +15,9 @@ use Rattle.listing.specs.Listing.{parameters_of, line, step_line, lines}
 use Rattle.listing.specs.Writing.{Put, PutWithin}
 use Rattle.listing.proofs.Written.{put_then, put_none}
 
--- the array has 32 places, and behind them stands no rule
-pub no_parameters : (p : Policy) (i k : ℕ) → length p.command ≡ 32 → 32 ≤ i → k ≡ 0 → k ≡ parameters_of p i
-no_parameters p i k l h z = z ∙ ap (λ (c : Command). c.parameters) (sym (get_or-eq_default p.command missing (omega arith)))
+-- behind the array's places stands no rule
+pub no_parameters : (p : Policy) (i : ℕ) → length p.command ≤ i → 0 ≡ parameters_of p i
+no_parameters p i h = ap (λ (c : Command). c.parameters) (sym (get_or-eq_default p.command missing h))
 
 lines_more : (p : Policy) (xs : List Call) (x : Call) → lines p (xs ++ (x ∷ [])) ≡ lines p xs ++ step_line p x
 lines_more p [] x = append-nil (step_line p x)

@@ -4,21 +4,32 @@ use mathlib.Core.Path.{◌≡◌, subst}
 use mathlib.Core.List.{List, [], ◌∷◌, ◌++◌}
 use native.Mathlib.Omega.{arith}
 use lib.ListN.{length, length-append}
+use Rattle.std.specs.Prelude.{Result, Ok, Err}
+use Rattle.refusals.specs.Numbers.{number_of}
+use Rattle.refusals.specs.declared.Refusal.{Refusal}
 use Rattle.policy.specs.declared.Policy.{Policy}
 use Rattle.trace.specs.Traces.{calls}
-use Rattle.safety.specs.Demand3.{steps_written}
-use Rattle.safety.specs.declared.Judgement.{Judgement}
-use Rattle.safety.specs.declared.Judgement.TheVariants.{Refused, Safe, Unsafe}
+use Rattle.safety.specs.Demand3.{steps_written, Judgement, Refused, Safe, Unsafe, judgement_told}
+use Rattle.safety.specs.declared.Verdict.{Verdict}
+use Rattle.safety.specs.declared.Verdict.TheVariants as code
 use Rattle.listing.specs.Listing.{decimal, newline, safe_word, unsafe_word, refused_word, head, lines, printed}
 use Rattle.listing.specs.Writing.{Put, Room, listing_bytes}
 use Rattle.listing.proofs.Written.{byte_digits, count-digits, put_then}
 
+-- ---- the judgement, as the code gives it
+module _ (x : Result Verdict Refusal) where
+  pub told_refused : (r : Refusal) → x ≡ Err r → judgement_told x ≡ Refused (number_of r)
+  told_refused r e = rw e
+
+  pub told_safe : (v : Verdict) (n : ℕ) → x ≡ Ok v → v ≡ code.Safe n → judgement_told x ≡ Safe n
+  told_safe v n e d = rw (e, d)
+
+  pub told_unsafe : (v : Verdict) (n : ℕ) → x ≡ Ok v → v ≡ code.Unsafe n → judgement_told x ≡ Unsafe n
+  told_unsafe v n e d = rw (e, d)
+
 -- ---- room for the first line
 pub refused_room : (b : List ℕ) (n : ℕ) → n < 256 → listing_bytes ≤ length b → 8 + length (decimal n) < length b
 refused_room b n h k = let z = byte_digits n h in omega arith
-
-pub empty_room : (b : List ℕ) → listing_bytes ≤ length b → 8 + length (decimal 1) < length b
-empty_room b k = refused_room b 1 (omega arith) k
 
 pub safe_room : (b t : List ℕ) (j : Judgement) (n : ℕ) → Room b (steps_written j) t → j ≡ Safe n → 5 + length (decimal n) < length b
 safe_room b t j n R e = let R' : Room b n t = subst (λ (x : Judgement). Room b (steps_written x) t) e R in let z = count-digits n R'.few in let l = R'.lines in omega arith

@@ -8,8 +8,8 @@ use native.Mathlib.Nat.{mod-eq_of_lt, not-suc-le-zero}
 use native.Mathlib.Omega.{arith}
 use borrow.Author.Tests.{lt-ltb, le-ltb}
 use lib.Dec.{ltb}
-use lib.ListN.{length, take, drop, set, length-append, length-drop, drop_of_length-le, take-append-drop}
-use lib.Seq.{take_all, take-length, take-nil, drop-drop, take_at, drop_at, length-take-le, set_split}
+use lib.ListN.{length, take, drop, set, length-append, take-append-drop}
+use lib.Seq.{take-nil, drop-drop, take_at, drop_at, length-take-le, set_split}
 use native.Mathlib.Numerals.{add-one}
 use Rattle.cases.specs.Cases.{pick}
 use Rattle.policy.specs.Contents.{over}

@@ -7,8 +7,7 @@ use Rattle.policy.specs.Contents.{policy_of}
 use Rattle.policy.specs.declared.Policy.{Policy}
 use Rattle.questions.specs.Refusals.{most_steps}
 use Rattle.safety.specs.Judgement.{file_verdict, file_judgement}
-use Rattle.safety.specs.declared.Judgement.{Judgement}
-use Rattle.safety.specs.declared.Judgement.TheVariants.{Refused, Safe, Unsafe}
+use Rattle.safety.specs.Demand3.{Judgement, Refused, Safe, Unsafe}
 
 -- ---- text, in ASCII
 -- "SAFE ", "UNSAFE ", "REFUSED "

@@ -2,14 +2,16 @@
 #![tactic(auto)]
 
 ghost use Rattle.std.specs.Prelude.{◌≡◌, [], ◌∷◌, ◌++◌, ◌+◌, ◌*◌, ◌≤◌, ◌<◌, length, take};
-ghost use Rattle.listing.specs.Listing.{unsafe_word, decimal, spaced, head, line, lines, printed, buffer_bytes, listing};
+ghost use Rattle.refusals.specs.Numbers.{number_of};
+ghost use Rattle.listing.specs.Listing.{refused_word, unsafe_word, decimal, spaced, head, parameters_of, line, lines, printed, buffer_bytes, listing};
 ghost use Rattle.listing.specs.Writing.{Put, PutWithin, number_bytes, actual_bytes, line_bytes, shown_actual, Room, listing_bytes, Answered};
 ghost use Rattle.trace.specs.Traces.{step_call, calls};
-ghost use Rattle.safety.specs.Demand3.{steps_written};
+ghost use Rattle.safety.specs.Demand3.{steps_written, judgement_told};
 
 use matrix::Matrix;
 use policy::Policy;
-use safety::Judgement;
+use refusals::Refusal;
+use safety::Verdict;
 
 // The most steps that the judge writes for an accepted file of at most 30 names: all rights, and 30 names that are all subjects.
 const STEPS: usize = (Matrix::RIGHTS as usize) * (Matrix::START + 1) * (Matrix::START + 2) + 4;
@@ -118,19 +120,21 @@ fn put_step(out: &mut [u8], at: usize, k: u8, steps: &[u8], i: usize) -> usize
     )
 }
 
-// The lines of the first n steps; a number that no command has stands for no parameters.
-fn put_lines(out: &mut [u8], from: usize, p: Policy, steps: &[u8], n: usize) -> usize
+// How many parameters command i has; a number that no command has stands for none.
+fn parameters_of(p: &Policy, i: usize) -> u8
+    ensures { result ≡ parameters_of p.now i }
+{
+    p.command.get(i).map_or(0, |c| c.parameters)
+}
+
+// The lines of the first n steps.
+fn put_lines(out: &mut [u8], from: usize, p: &Policy, steps: &[u8], n: usize) -> usize
     requires { (from + line_bytes * n ≤ length out.old) × (5 * n ≤ length steps.now) }
-    ensures { Put out.old from (lines p (calls steps.now n)) result out.new }
+    ensures { Put out.old from (lines p.now (calls steps.now n)) result out.new }
 {
     let mut at = from;
     for i in 0..n {
-        let command = steps[5 * i] as usize;
-        let mut k = 0;
-        if command < Policy::COMMANDS {
-            let c = p.command[command];
-            k = c.parameters;
-        }
+        let k = parameters_of(p, steps[5 * i] as usize);
         at = put_step(out, at, k, steps, i);
     }
     at
@@ -146,24 +150,32 @@ fn put_head(out: &mut [u8], word: &[u8], n: usize) -> usize
     put_byte(out, b, b'\n')
 }
 
+// The answer `REFUSED n`.
+fn put_refused(out: &mut [u8], by: Refusal) -> usize
+    requires { listing_bytes ≤ length out.old }
+    ensures { Put out.old 0 (head refused_word (number_of by)) result out.new }
+{
+    put_head(out, b"REFUSED ", by.number() as usize)
+}
+
 // The answer `UNSAFE n`, with the lines of the n steps.
-fn print_unsafe(out: &mut [u8], n: usize, p: Policy, steps: &[u8]) -> usize
+fn print_unsafe(out: &mut [u8], n: usize, p: &Policy, steps: &[u8]) -> usize
     requires { Room out.old n steps.now }
-    ensures { Put out.old 0 (head unsafe_word n ++ lines p (calls steps.now n)) result out.new }
+    ensures { Put out.old 0 (head unsafe_word n ++ lines p.now (calls steps.now n)) result out.new }
 {
     let at = put_head(out, b"UNSAFE ", n);
     put_lines(out, at, p, steps, n)
 }
 
 // The whole answer, given the judgement and the steps that it wrote.
-fn print(out: &mut [u8], judgement: Judgement, p: Policy, steps: &[u8]) -> usize
-    requires { Room out.old (steps_written judgement) steps.now }
-    ensures { Put out.old 0 (printed p judgement (calls steps.now (steps_written judgement))) result out.new }
+fn print(out: &mut [u8], judgement: Result<Verdict, Refusal>, p: &Policy, steps: &[u8]) -> usize
+    requires { Room out.old (steps_written (judgement_told judgement)) steps.now }
+    ensures { Put out.old 0 (printed p.now (judgement_told judgement) (calls steps.now (steps_written (judgement_told judgement)))) result out.new }
 {
     match judgement {
-        Judgement::Refused(n) => put_head(out, b"REFUSED ", n as usize),
-        Judgement::Safe(n) => put_head(out, b"SAFE ", n),
-        Judgement::Unsafe(n) => print_unsafe(out, n, p, steps),
+        Err(by) => put_refused(out, by),
+        Ok(Verdict::Safe(n)) => put_head(out, b"SAFE ", n),
+        Ok(Verdict::Unsafe(n)) => print_unsafe(out, n, p, steps),
     }
 }
 
@@ -177,11 +189,14 @@ fn answer_file(out: &mut [u8], file: &[u8], right: u8) -> usize
     requires { listing_bytes ≤ length out.old }
     ensures { Put out.old 0 (listing (right ∷ file.now)) result out.new }
 {
-    let mut steps = step_buffer();
-    let read = policy::read_policy(file);
-    let judgement = safety::judge_read(read, right, &mut steps);
-    let p = read.policy;
-    print(out, judgement, p, &steps)
+    match policy::read_policy(file) {
+        Err(by) => put_refused(out, by),
+        Ok(p) => {
+            let mut steps = step_buffer();
+            let judgement = safety::judge_read(Ok(p), right, &mut steps);
+            print(out, judgement, &p, &steps)
+        }
+    }
 }
 
 // The answer to the desk program's input: the right, then a file. It stands at the front of out, and its length is handed back; 0 where out is too short.
@@ -192,7 +207,7 @@ pub fn answer(input: &[u8], out: &mut [u8]) -> usize
         return 0;
     }
     if input.len() == 0 {
-        return put_head(out, b"REFUSED ", 1);
+        return put_refused(out, Refusal::FileLength);
     }
     let right = input[0];
     answer_file(out, &input[1..], right)

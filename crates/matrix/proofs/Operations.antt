@@ -21,15 +21,15 @@ use Rattle.protection.specs.State.{Kind, is_object, is_subject}
 use Rattle.protection.specs.Paper.{subject_is_object}
 use Rattle.protection.specs.Execution.{same_cell, put, take_out, renew}
 use Rattle.matrix.specs.Bytes.{kind_of, inside, rights_in}
-use Rattle.matrix.specs.Matrices.{matrix_of, state_of, place, entered, deleted, emptied, renewed}
+use Rattle.matrix.specs.Matrices.{state_of, place, entered, deleted, emptied, renewed}
 use Rattle.matrix.specs.declared.Matrix.{Matrix}
 use Rattle.matrix.specs.Canonical.{Canonical}
 use Rattle.matrix.proofs.Inverse.{named_below, within_inside, in_bit}
 
 -- ---- for the loop of `renew`
-pub renewed_is : (ks cs₀ : List ℕ) (n k j : ℕ) (cs : List ℕ) → 32 ≤ j → iterate (emptied n) (32 - j) j cs ≡ iterate (emptied n) 32 0 cs₀
-    → matrix_of (set ks n k) cs ≡ renewed (matrix_of ks cs₀) n k
-renewed_is ks cs₀ n k j cs h e = rw (iterate_end (emptied n) 32 (iterate (emptied n) 32 0 cs₀) j cs h e)
+pub renewed_is : (m : Matrix) (n k j : ℕ) (now : Matrix) → now.kinds ≡ m.kinds → 32 ≤ j → iterate (emptied n) (32 - j) j now.cells ≡ iterate (emptied n) 32 0 m.cells
+    → record { kinds = set now.kinds n k; cells = now.cells } ≡ renewed m n k
+renewed_is m n k j now e h i = rw (e, iterate_end (emptied n) 32 (iterate (emptied n) 32 0 m.cells) j now.cells h i)
 
 -- ---- one place of the cells
 same_place : (s o s' o' : ℕ) → o < names → o' < names → place s o ≡ place s' o' → (s ≡ s') × (o ≡ o')

@@ -1,26 +1,20 @@
--- The tests of the reader's loops over the kinds and the cells. Assumes nothing.
-use Prim.Native.Nat.{ℕ, ◌+◌, ◌-◌, ◌/◌, ◌%◌, ◌^◌, ◌≤◌, ◌<◌}
+-- The test of one cell. Assumes nothing.
+use Prim.Native.Nat.{ℕ, ◌/◌, ◌%◌, ◌^◌}
 use mathlib.Core.Path.{◌≡◌, refl, sym, ◌∙◌}
-use mathlib.Core.Bool.{Bool, true, false, not}
+use mathlib.Core.Bool.{Bool, true, false}
 use mathlib.Core.List.{List}
-use borrow.Author.Tests.{lt-leb, le-leb, lt-ltb, ne_eqb, not-false}
+use borrow.Author.Tests.{lt-ltb, ne_eqb}
+use lib.Dec.{eqb}
 use lib.ListN.{get_or}
 use lib.Pow.{pow_pos}
-use Rattle.cases.specs.Cases.{pick, all}
-use Rattle.cases.proofs.Loops.{all_false, all_true}
+use Rattle.cases.specs.Cases.{pick}
 use Rattle.rights.specs.Rights.{within}
 use Rattle.protection.specs.Limits.{names}
 use Rattle.matrix.specs.Bytes.{inside}
-use Rattle.matrix.specs.Refusals.{kind_fits, cell_fits}
-
-pub kind_stop : (ks : List ℕ) (x : ℕ) (whole : Bool) → 2 < get_or ks x 0 → x < 32 → all (kind_fits ks) (32 - x) x ≡ whole → false ≡ whole
-kind_stop ks x whole t h e = all_false (kind_fits ks) 32 whole x (lt-leb (get_or ks x 0) 2 t) h e
-
-pub kind_more : (ks : List ℕ) (x : ℕ) (whole : Bool) → get_or ks x 0 ≤ 2 → x < 32 → all (kind_fits ks) (32 - x) x ≡ whole → all (kind_fits ks) (32 - (x + 1)) (x + 1) ≡ whole
-kind_more ks x whole t h e = all_true (kind_fits ks) 32 whole x (le-leb (get_or ks x 0) 2 t) h e
+use Rattle.matrix.specs.Refusals.{cell_fits}
 
 -- ---- a cell: an empty one fits wherever it is, another one where there is a cell
-pub cell_empty : (g : ℕ) (ks cs : List ℕ) (c : ℕ) → get_or cs c 0 ≡ 0 → true ≡ cell_fits g ks cs c
+pub cell_empty : (g : ℕ) (ks cs : List ℕ) (c : ℕ) → get_or cs c 0 ≡ 0 → eqb (get_or cs c 0) 0 ≡ cell_fits g ks cs c
 unfolding cell_fits
 cell_empty g ks cs c e = rw (e, lt-ltb 0 (2 ^ g) (pow_pos g)) (by (inside ks (c / names) (c % names)))
   where
@@ -28,10 +22,10 @@ cell_empty g ks cs c e = rw (e, lt-ltb 0 (2 ^ g) (pow_pos g)) (by (inside ks (c 
     by true = refl
     by false = refl
 
-pub cell_full : (g : ℕ) (ks cs : List ℕ) (c : ℕ) (w r : Bool) → (get_or cs c 0 ≡ 0 → ⊥) → w ≡ within (get_or cs c 0) g → not w ≡ false → r ≡ inside ks (c / names) (c % names) → r ≡ cell_fits g ks cs c
+pub cell_full : (g : ℕ) (ks cs : List ℕ) (c : ℕ) (w r : Bool) → (get_or cs c 0 ≡ 0 → ⊥) → w ≡ within (get_or cs c 0) g → w ≡ true → r ≡ inside ks (c / names) (c % names) → r ≡ cell_fits g ks cs c
 unfolding cell_fits
 cell_full g ks cs c w r n d t e =
-    let z : within (get_or cs c 0) g ≡ true = sym d ∙ not-false w t in e ∙ rw (z, ne_eqb (get_or cs c 0) 0 n) (by (inside ks (c / names) (c % names)))
+    let z : within (get_or cs c 0) g ≡ true = sym d ∙ t in e ∙ rw (z, ne_eqb (get_or cs c 0) 0 n) (by (inside ks (c / names) (c % names)))
   where
     by : (b : Bool) → b ≡ pick b true false
     by true = refl

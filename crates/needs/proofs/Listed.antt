@@ -1,65 +1,45 @@
 -- The list of cells: what the code tests of it, one after the other, and what holds where 41 is not given. Assumes nothing.
-use Prim.Native.Nat.{ℕ, zero, suc, ◌+◌, ◌*◌, ◌-◌, ◌/◌, ◌%◌, ◌≤◌, ◌<◌}
+use Prim.Native.Nat.{ℕ, zero, suc, ◌+◌, ◌*◌, ◌/◌, ◌%◌, ◌≤◌, ◌<◌}
 use mathlib.Core.Path.{◌≡◌, refl, sym, ap, ◌∙◌, subst}
 use mathlib.Core.Bool.{Bool, true, false, not, ◌&&◌}
 use mathlib.Core.List.{List, [], ◌∷◌}
 use native.Mathlib.Omega.{arith}
 use native.Mathlib.Decide.{ℕ_discrete, dec_lt}
-use borrow.Author.Tests.{lt-ltb, le-ltb, eq-eqb, ne_eqb, not-true, not-false}
+use borrow.Author.Tests.{lt-ltb, le-ltb, eq-eqb, ne_eqb}
 use lib.Dec.{T, eqb, ltb, ltb→lt, eqb→eq}
-use lib.ListN.{length, get_or, get_or-eq_default}
-use Rattle.cases.specs.Cases.{pick, tabulate}
+use lib.ListN.{length}
+use Rattle.cases.specs.Cases.{pick, all, tabulate}
 use Rattle.cases.proofs.Bools.{holds as test-holds, and_left, and_right}
-use Rattle.cases.proofs.Lists.{every_stop, every_next}
 use Rattle.protection.specs.Limits.{names, rights}
-use Rattle.protection.specs.State.{State, is_object, is_subject, object_in, subject_in}
+use Rattle.protection.specs.State.{State, object_in, subject_in}
 use Rattle.protection.specs.Command.{System}
 use Rattle.protection.specs.Need.{Cell, CellsThere}
 use Rattle.protection.specs.Proper.{Proper}
 use Rattle.protection.specs.Paper.{subject_is_object}
-use Rattle.matrix.specs.Bytes.{kind_of, view}
+use Rattle.matrix.specs.Bytes.{view}
 use Rattle.matrix.specs.Matrices.{state_of}
 use Rattle.policy.specs.Contents.{system_of}
 use Rattle.policy.specs.Fits.{PolicyFits}
 use Rattle.policy.specs.declared.Policy.{Policy}
+use Rattle.commands.specs.Contents.{padded}
 use Rattle.goals.specs.Goals.{cell_limit, needed_at, cells_in, held_goal, CellFits, GoalFits}
 use Rattle.goals.proofs.Lists.{held_cell}
 use Rattle.needs.specs.Needed.{cell_taken, cells_taken, list_refusal}
-
-pub absent_above : (ks : List ℕ) (x : ℕ) → length ks ≡ 32 → 32 ≤ x → 0 ≡ get_or ks x 0
-absent_above ks x e l = sym (get_or-eq_default ks 0 {n = x} (omega arith))
-
--- ---- one cell
-module _ (g : ℕ) (ks : List ℕ) (c : Cell) where
-  pub right_above : g ≤ c.right → false ≡ cell_taken g (view ks []) c
-  right_above l = rw (le-ltb c.right g l)
-
-  module _ (l : c.right < g) (k : ℕ) (k-is : k ≡ get_or ks c.subject 0) (b : Bool) (b-is : b ≡ is_subject (kind_of k)) where
-    subject_is : is_subject (kind_of (get_or ks c.subject 0)) ≡ b
-    subject_is = ap (λ (z : ℕ). is_subject (kind_of z)) (sym k-is) ∙ sym b-is
-
-    pub no-subject : not b ≡ true → false ≡ cell_taken g (view ks []) c
-    no-subject f = rw (lt-ltb c.right g l, subject_is, not-true b f)
-
-    pub by_object : not b ≡ false → (n : ℕ) → n ≡ get_or ks c.object 0 → (r : Bool) → r ≡ is_object (kind_of n) → r ≡ cell_taken g (view ks []) c
-    by_object f n n-is r r-is = r-is ∙ ap (λ (z : ℕ). is_object (kind_of z)) n-is ∙ rw (lt-ltb c.right g l, subject_is, not-false b f)
 
 -- what is asked of a cell is of kinds alone
 kinds_alone : (g : ℕ) (ks cs : List ℕ) (xs : List Cell) → cells_taken g (view ks cs) xs ≡ cells_taken g (view ks []) xs
 kinds_alone g ks cs [] = refl
 kinds_alone g ks cs (c ∷ xs) = ap (λ (b : Bool). cell_taken g (view ks []) c && b) (kinds_alone g ks cs xs)
 
--- ---- all cells
-module _ (g : ℕ) (ks l : List ℕ) (n j : ℕ) (whole : Bool) (r : Bool) where
-  pub taken_stop : r ≡ cell_taken g (view ks []) (needed_at l j) → not r ≡ true → j < n → cells_taken g (view ks []) (tabulate (needed_at l) (n - j) j) ≡ whole → false ≡ whole
-  taken_stop = every_stop (cells_taken g (view ks [])) (cell_taken g (view ks [])) (λ x xs. refl) (needed_at l) n j whole r
-
-  pub taken_next : r ≡ cell_taken g (view ks []) (needed_at l j) → not r ≡ false → j < n → cells_taken g (view ks []) (tabulate (needed_at l) (n - j) j) ≡ whole
-      → cells_taken g (view ks []) (tabulate (needed_at l) (n - (j + 1)) (j + 1)) ≡ whole
-  taken_next = every_next (cells_taken g (view ks [])) (cell_taken g (view ks [])) (λ x xs. refl) (needed_at l) n j whole r
-
-pub taken_end : (g : ℕ) (ks l : List ℕ) (n j : ℕ) (whole : Bool) → n ≤ j → cells_taken g (view ks []) (tabulate (needed_at l) (n - j) j) ≡ whole → true ≡ whole
-taken_end g ks l n j whole h e = let z : n - j ≡ 0 = omega arith in rw z at e
+-- all cells of the list, by their numbers
+pub taken_all : (g : ℕ) (ks l : List ℕ) (n j : ℕ) → all (λ i. cell_taken g (view ks []) (needed_at l i)) n j ≡ cells_taken g (view ks []) (tabulate (needed_at l) n j)
+unfolding all
+taken_all g ks l zero j = refl
+taken_all g ks l (suc n) j = both (cell_taken g (view ks []) (needed_at l j)) _ ∙ ap (λ (b : Bool). cell_taken g (view ks []) (needed_at l j) && b) (taken_all g ks l n (suc j))
+  where
+    both : (b c : Bool) → pick b c false ≡ b && c
+    both true c = refl
+    both false c = refl
 
 -- ---- what the code tests, one after the other
 pub kinds_long : (p : Policy) → PolicyFits p → length p.matrix.kinds ≡ names
@@ -134,9 +114,9 @@ taken_there g m (c ∷ cs) t =
 
 -- the goal lies within the limits
 pub goal_fits : (g : ℕ) (m : State) (l : List ℕ) → g ≤ rights → Proper g m → Listed g m l → GoalFits (held_goal l)
-goal_fits g m l few P L = record { few = omega (arith, L.few); all = cell }
+goal_fits g m l few P L = record { needed = record { few = omega (arith, L.few); all = cell } }
   where
-    cell : (j : ℕ) → j < length l / 3 → CellFits (held_goal l).cells j
+    cell : (j : ℕ) → j < length l / 3 → CellFits (padded (3 * cell_limit) l) j
     cell j h =
         let t = taken_each g m (needed_at l) (length l / 3) 0 L.taken j (omega arith) (omega arith) in
         let c = needed_at l j in

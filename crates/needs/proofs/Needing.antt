@@ -1,20 +1,20 @@
 -- A need on a file: where nothing is refused, its answer is the truth about all runs that destroy no starting name; and so answer and buffer are all that is
 -- to be shown of the code. Assumes nothing.
-use Prim.Native.Nat.{ℕ, suc, ◌*◌, ◌≤◌}
+use Prim.Native.Nat.{ℕ, ◌*◌, ◌≤◌}
 use mathlib.Core.Path.{◌≡◌, refl, sym, ap, ap₂, ◌∙◌, subst}
 use mathlib.Core.Bool.{Bool, true, false, not}
 use mathlib.Core.List.{List}
 use native.Mathlib.Omega.{arith}
 use native.Mathlib.Decide.{ℕ_discrete}
 use borrow.Author.Tests.{eq-eqb, ne_eqb}
-use lib.Dec.{T, eqb}
+use lib.Dec.{eqb}
 use lib.ListN.{length, drop}
+use Rattle.std.specs.Prelude.{Result, Ok, Err, IsErrAnd}
 use Rattle.cases.specs.Cases.{pick}
 use Rattle.cases.proofs.Bools.{holds as test-holds}
 use Rattle.cases.proofs.Lists.{length_tabulate}
 use Rattle.protection.specs.Size.{step_bound}
-use Rattle.protection.specs.Command.{Call}
-use Rattle.protection.specs.Judge.{none_reserved, Question, Progress, all_rounds, Settled}
+use Rattle.protection.specs.Judge.{none_reserved, Question, Progress, all_rounds}
 use Rattle.protection.specs.Need.{held_beside, held_of, HeldAfter, NeverHeld}
 use Rattle.protection.proofs.Saturation.{Taken, rounds_settled}
 use Rattle.protection.proofs.Needed.{need_held, need_never, need_bound}
@@ -24,32 +24,34 @@ use Rattle.layout.specs.Refusals.{or_else}
 use Rattle.layout.proofs.Accepted.{or-else}
 use Rattle.layout.proofs.OrElse.{or_first, or_second}
 use Rattle.policy.specs.Refusals.{refusal}
-use Rattle.policy.specs.Contents.{system_of, policy_of, policy_read, file_state, file_system}
+use Rattle.policy.specs.Contents.{system_of, policy_of, file_state, file_system}
 use Rattle.policy.specs.Fits.{PolicyFits}
 use Rattle.policy.specs.declared.Policy.{Policy}
-use Rattle.policy.specs.declared.PolicyRead.{PolicyRead}
 use Rattle.policy.proofs.Accepted.{accepted}
 use Rattle.policy.proofs.FileState.{policy_fits}
-use Rattle.policy.proofs.Laws.{read_refusal, read_policy}
 use Rattle.policy.proofs.ReadPolicy.{policy_fits_read}
 use Rattle.goals.specs.Goals.{cell_limit, cells_in, held_goal, question_of, GoalFits}
 use Rattle.goals.specs.declared.Goal.{Goal}
 use Rattle.goals.proofs.Ending.{none-reserved}
 use Rattle.goals.proofs.Lists.{held_needs}
 use Rattle.trace.specs.Traces.{step_call, calls}
-use Rattle.visits.specs.Engine.{Course, progress_of, Asked}
+use Rattle.visits.specs.Engine.{progress_of, Asked}
+use Rattle.visits.specs.declared.Course.{Course}
 use Rattle.visits.proofs.Asked.{taken, room_left}
 use Rattle.questions.specs.Refusals.{size_refusal}
-use Rattle.questions.specs.Rounded.{BasisOf, Ended}
-use Rattle.questions.specs.declared.Basis.{Basis}
+use Rattle.questions.specs.Rounded.{Ended}
 use Rattle.questions.proofs.Refusals.{open_asked}
 use Rattle.safety.specs.Judgement.{filled}
 use Rattle.safety.proofs.Buffers.{calls_back, buffer_filled}
-use Rattle.needs.specs.Needed.{list_refusal, need_refusal, file_rounds, need_of, file_need, steps_taken, need_buffer, Needed}
+use Rattle.refusals.specs.declared.Refusal.{Refusal}
+use Rattle.refusals.specs.Numbers.{number_of}
+use Rattle.refusals.proofs.Codes.{number_above}
+use Rattle.needs.specs.declared.Need.{Need as CodeNeed}
+use Rattle.needs.specs.Needed.{need_told, list_refusal, need_refusal, file_rounds, need_of, file_need, steps_taken, need_buffer, Needed}
 use Rattle.needs.specs.Rounds.{need_rounds, NeedRounded}
-use Rattle.needs.specs.declared.Need.{Need}
-use Rattle.needs.specs.declared.Need.TheVariants.{Refused, Held, Never}
-use Rattle.needs.proofs.Listed.{Listed, listed, taken_there, goal_fits}
+use Rattle.needs.specs.Needed.{Need}
+use Rattle.needs.specs.Needed.{Refused, Held, Never}
+use Rattle.needs.proofs.Listed.{listed, taken_there, goal_fits}
 
 -- ---- the rounds of a goal of cells
 pub need_asked : (p : Policy) (l : List ℕ) (n : ℕ) (G : Goal) → G ≡ held_goal l → Asked p (held_goal l) n → Asked p G n
@@ -91,8 +93,8 @@ passed f l n e =
 pub list_fits : (p : Policy) (l : List ℕ) → PolicyFits p → list_refusal (system_of p) (state_of p.matrix) l ≡ 0 → GoalFits (held_goal l)
 list_fits p l F e = goal_fits p.rights (state_of p.matrix) l F.few_rights (view_proper p.rights p.matrix.kinds p.matrix.cells F.matrix_fits) (listed (system_of p) (state_of p.matrix) l e)
 
-pub list_few : (p : Policy) (l : List ℕ) (i : ℕ) → i ≡ list_refusal (system_of p) (state_of p.matrix) l → i ≡ 0 → length l ≤ 3 * cell_limit
-list_few p l i e z = (listed (system_of p) (state_of p.matrix) l (sym e ∙ z)).few
+pub list_few : (p : Policy) (l : List ℕ) → 0 ≡ list_refusal (system_of p) (state_of p.matrix) l → length l ≤ 3 * cell_limit
+list_few p l e = (listed (system_of p) (state_of p.matrix) l (sym e)).few
 
 module _ (f l b : List ℕ) where
   abbrev z : ℕ
@@ -181,54 +183,46 @@ module _ (f l b : List ℕ) where
   unfolding file_need need_buffer
   refused_with k ne e = let u : eqb k 0 ≡ false = ne_eqb k 0 ne in needed f l b (Refused k) b (rw (e, u)) (rw (e, u))
 
-  module _ (x : PolicyRead) (d : x ≡ policy_read f) where
-    pub file_refused : (x.refused ≡ 0 → ⊥) → Needed f l b (Refused x.refused) b
-    unfolding need_refusal
-    file_refused ne =
-        let w : refusal f ≡ x.refused = sym (read_refusal f x d) in
-        refused_with x.refused ne (or_first (refusal f) _ (λ q. ne (sym w ∙ q)) ∙ w)
+  -- a refusal is handed on
+  handed : (y : Result CodeNeed Refusal) (r : Refusal) → IsErrAnd y (λ e. e ≡ r) → need_refusal f l (length b) ≡ number_of r → Needed f l b (need_told y) b
+  handed (Ok x) r h e = elim h [ ]
+  handed (Err d) r h e = rw h (refused_with (number_of r) (λ q. omega (arith, number_above r)) e)
 
-    module _ (u : x.refused ≡ 0) where
-      policy_is : x.policy ≡ policy_of f
-      policy_is = read_policy f x d u
+  pub file_refused : (y : Result CodeNeed Refusal) (r : Refusal) → IsErrAnd y (λ e. e ≡ r) → number_of r ≡ refusal f → Needed f l b (need_told y) b
+  unfolding need_refusal
+  file_refused y r h e = handed y r h (or_first (refusal f) _ (λ q. omega (arith, number_above r)) ∙ sym e)
 
-      accepted_is : refusal f ≡ 0
-      accepted_is = sym (read_refusal f x d) ∙ u
+  -- of a file that was read
+  module _ (p : Policy) (u : 0 ≡ refusal f) (d : p ≡ policy_of f) where
+    abbrev by_size : ℕ
+    by_size = size_refusal (system_of p) (state_of p.matrix) (length b)
 
-      abbrev by_size : ℕ
-      by_size = size_refusal (system_of x.policy) (state_of x.policy.matrix) (length b)
+    abbrev by_list : ℕ
+    by_list = list_refusal (system_of p) (state_of p.matrix) l
 
-      abbrev by_list : ℕ
-      by_list = list_refusal (system_of x.policy) (state_of x.policy.matrix) l
+    refusal_is : need_refusal f l (length b) ≡ or_else by_size by_list
+    unfolding need_refusal policy_of
+    refusal_is = or_second (refusal f) _ (sym u) ∙ ap (λ (q : Policy). or_else (size_refusal (system_of q) (state_of q.matrix) (length b)) (list_refusal (system_of q) (state_of q.matrix) l)) (sym d)
 
-      refusal_is : need_refusal f l (length b) ≡ or_else by_size by_list
-      unfolding need_refusal policy_of
-      refusal_is = or_second (refusal f) _ accepted_is ∙ ap (λ (p : Policy). or_else (size_refusal (system_of p) (state_of p.matrix) (length b)) (list_refusal (system_of p) (state_of p.matrix) l)) (sym policy_is)
+    pub read_fits : PolicyFits p
+    read_fits = policy_fits_read f p (sym u) d
 
-      -- k is the answer for whatever policy has this basis
-      module _ (B : Basis) (K : BasisOf x.policy B) (k : ℕ) (h : (q : Policy) → BasisOf q B → k ≡ size_refusal (system_of q) (state_of q.matrix) (length b)) where
-        e : k ≡ by_size
-        e = h x.policy K
+    pub size_refused : (y : Result CodeNeed Refusal) (r : Refusal) → IsErrAnd y (λ e. e ≡ r) → number_of r ≡ by_size → Needed f l b (need_told y) b
+    size_refused y r h e = handed y r h (refusal_is ∙ or_first by_size by_list (λ q. omega (arith, number_above r)) ∙ sym e)
 
-        pub size_refused : (k ≡ 0 → ⊥) → Needed f l b (Refused k) b
-        size_refused ne = refused_with k ne (refusal_is ∙ or_first by_size by_list (λ q. ne (e ∙ q)) ∙ sym e)
+    module _ (n : 0 ≡ by_size) where
+      pub list_refused : (y : Result CodeNeed Refusal) (r : Refusal) → IsErrAnd y (λ e. e ≡ r) → number_of r ≡ by_list → Needed f l b (need_told y) b
+      list_refused y r h e = handed y r h (refusal_is ∙ or_second by_size by_list (sym n) ∙ sym e)
 
-        module _ (n : k ≡ 0) where
-          pub list_refused : (i : ℕ) → i ≡ by_list → (i ≡ 0 → ⊥) → Needed f l b (Refused i) b
-          list_refused i g ne = refused_with i ne (refusal_is ∙ or_second by_size by_list (sym e ∙ n) ∙ sym g)
+      module _ (o : 0 ≡ by_list) where
+        pub file_asked : Asked p (held_goal l) (length b)
+        file_asked = open_asked p (held_goal l) (length b) refl (sym n) read_fits (list_fits p l read_fits (sym o))
 
-          module _ (i : ℕ) (g : i ≡ by_list) (o : i ≡ 0) where
-            fits : PolicyFits x.policy
-            fits = policy_fits_read f x d u
+        rounds_are : need_rounds p l ≡ file_rounds f l
+        unfolding policy_of
+        rounds_are = ap (λ (q : Policy). need_rounds q l) d
 
-            pub file_asked : Asked x.policy (held_goal l) (length b)
-            file_asked = open_asked x.policy (held_goal l) (length b) refl (sym e ∙ n) fits (list_fits x.policy l fits (sym g ∙ o))
-
-            rounds_are : need_rounds x.policy l ≡ file_rounds f l
-            unfolding policy_of
-            rounds_are = ap (λ (p : Policy). need_rounds p l) policy_is
-
-            pub file_needed : (answer : Need) (b' : List ℕ) → NeedRounded x.policy l b answer b' → Needed f l b answer b'
-            file_needed answer b' R =
-                let q : need_refusal f l (length b) ≡ 0 = refusal_is ∙ or_second by_size by_list (sym e ∙ n) ∙ sym g ∙ o in
-                needed f l b answer b' (R.answer_is ∙ ap need_of rounds_are ∙ sym (need_is f l b q)) (R.buffer_is ∙ ap (λ (w : Progress). filled w.steps b) rounds_are ∙ sym (buffer_is f l b q))
+        pub file_needed : (answer : Need) (b' : List ℕ) → NeedRounded p l b answer b' → Needed f l b answer b'
+        file_needed answer b' R =
+            let q : need_refusal f l (length b) ≡ 0 = refusal_is ∙ or_second by_size by_list (sym n) ∙ sym o in
+            needed f l b answer b' (R.answer_is ∙ ap need_of rounds_are ∙ sym (need_is f l b q)) (R.buffer_is ∙ ap (λ (w : Progress). filled w.steps b) rounds_are ∙ sym (buffer_is f l b q))

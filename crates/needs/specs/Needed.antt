@@ -1,5 +1,5 @@
 -- What a press needs, on a file (document 02, C-14): its refusals, its answer, what it leaves of the buffer, and what it promises.
-use Rattle.std.specs.Prelude.{ℕ, ◌*◌, ◌/◌, ◌%◌, ◌≤◌, ◌≡◌, Bool, true, not, ◌&&◌, List, [], ◌∷◌, eqb, ltb, length}
+use Rattle.std.specs.Prelude.{ℕ, ◌/◌, ◌%◌, ◌≤◌, ◌≡◌, Bool, true, not, ◌&&◌, List, [], ◌∷◌, eqb, ltb, length, Result, Ok, Err}
 use Rattle.cases.specs.Cases.{pick}
 use Rattle.protection.specs.State.{State, object_in, subject_in}
 use Rattle.protection.specs.Size.{step_bound}
@@ -13,8 +13,10 @@ use Rattle.goals.specs.Goals.{cell_limit, cells_in}
 use Rattle.trace.specs.Traces.{calls}
 use Rattle.questions.specs.Refusals.{size_refusal}
 use Rattle.safety.specs.Judgement.{filled}
-use Rattle.needs.specs.declared.Need.{Need}
-use Rattle.needs.specs.declared.Need.TheVariants.{Refused, Held, Never}
+use Rattle.refusals.specs.Numbers.{number_of}
+use Rattle.refusals.specs.declared.Refusal.{Refusal}
+use Rattle.needs.specs.declared.Need.{Need as CodeNeed}
+use Rattle.needs.specs.declared.Need.TheVariants as code
 
 -- ---- refusals
 -- not "a right not below g, a first name that is no subject at the start, or a second that is absent then"; a name above 31 is absent
@@ -42,7 +44,21 @@ need_refusal f l n = or_else (refusal f) (or_else (size_refusal (file_system f) 
 abbrev pub file_rounds : List ℕ → List ℕ → Progress
 file_rounds f l = all_rounds (file_system f) (held_of (cells_in l)) (file_state f)
 
--- the enum `Need`, with the number of steps written
+-- whether all cells are held at some moment, with the number of steps written; or a refusal
+pub data Need : Type 0 where
+  Refused : ℕ → Need
+  Held : ℕ → Need
+  Never : ℕ → Need
+
+-- as the code answers it
+abbrev pub needed_told : CodeNeed → Need
+needed_told (code.Held n) = Held n
+needed_told (code.Never n) = Never n
+
+abbrev pub need_told : Result CodeNeed Refusal → Need
+need_told (Ok x) = needed_told x
+need_told (Err r) = Refused (number_of r)
+
 abbrev pub need_of : Progress → Need
 need_of j = pick j.ended (Held (length j.steps)) (Never (length j.steps))
 

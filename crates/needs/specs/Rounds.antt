@@ -7,8 +7,7 @@ use Rattle.policy.specs.Contents.{system_of}
 use Rattle.policy.specs.declared.Policy.{Policy}
 use Rattle.goals.specs.Goals.{cells_in}
 use Rattle.safety.specs.Judgement.{filled}
-use Rattle.needs.specs.declared.Need.{Need}
-use Rattle.needs.specs.Needed.{need_of}
+use Rattle.needs.specs.Needed.{Need, need_of}
 
 abbrev pub need_rounds : Policy → List ℕ → Progress
 need_rounds p l = all_rounds (system_of p) (held_of (cells_in l)) (state_of p.matrix)

@@ -1,5 +1,5 @@
 -- What follows from the promise for a part alone, whatever the answer and the buffer: at least a sentence for each field. Assumes nothing.
-use Prim.Native.Nat.{ℕ, suc, ◌*◌, ◌-◌, ◌≤◌}
+use Prim.Native.Nat.{ℕ, ◌*◌, ◌-◌}
 use mathlib.Core.Path.{◌≡◌, refl, sym, ap, ◌∙◌, subst}
 use mathlib.Core.Bool.{Bool, true, false, not}
 use mathlib.Core.List.{List, []}
@@ -8,7 +8,6 @@ use native.Mathlib.Decide.{ℕ_discrete}
 use lib.Dec.{T}
 use lib.ListN.{length, take}
 use Rattle.cases.specs.Cases.{pick}
-use Rattle.protection.specs.Size.{step_bound}
 use Rattle.protection.specs.Command.{Call}
 use Rattle.protection.specs.Execution.{unbounded}
 use Rattle.protection.specs.Leak.{leaks, any_refused, init}
@@ -19,8 +18,7 @@ use Rattle.trace.specs.Traces.{calls}
 use Rattle.trace.specs.Replays.{file_replay, replay_code, replay_step}
 use Rattle.safety.specs.Demand3.{steps_written, is_unsafe}
 use Rattle.safety.specs.Judgement.{judgement_of, file_judgement, file_buffer}
-use Rattle.safety.specs.declared.Judgement.{Judgement}
-use Rattle.safety.specs.declared.Judgement.TheVariants.{Refused, Safe, Unsafe}
+use Rattle.safety.specs.Demand3.{Judgement, Refused, Safe, Unsafe}
 use Rattle.safety.proofs.Refusals.{answers, turned_down, untouched}
 use Rattle.parts.specs.Parts.{left_out, part_refusal, file_part, part_verdict, part_judgement, part_buffer, PartJudged}
 

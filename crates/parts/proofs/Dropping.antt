@@ -1,12 +1,11 @@
 -- Names dropped from a matrix, one after the other: it is the state without them, and stays canonical. Assumes nothing.
-use Prim.Native.Nat.{ℕ, zero, suc, ◌+◌, ◌-◌, ◌/◌, ◌%◌, ◌^◌, ◌≤◌, ◌<◌}
-use mathlib.Core.Path.{◌≡◌, refl, sym, ap, ap₂, ◌∙◌, subst, fun_ext}
+use Prim.Native.Nat.{ℕ, suc, ◌+◌, ◌-◌, ◌/◌, ◌%◌, ◌^◌, ◌≤◌, ◌<◌}
+use mathlib.Core.Path.{◌≡◌, refl, sym, ap, ◌∙◌, fun_ext}
 use mathlib.Core.Bool.{Bool, true, false, not, ◌&&◌, ◌||◌}
-use mathlib.Core.List.{List}
 use native.Mathlib.Omega.{arith}
 use native.Mathlib.Decide.{dec_lt, ℕ_discrete}
 use borrow.Author.Tests.{eq-eqb, ne_eqb, lt-ltb, le-ltb}
-use lib.Dec.{T, eqb, ltb, eqb→eq}
+use lib.Dec.{T, eqb, ltb}
 use Rattle.cases.specs.Cases.{pick, iterate}
 use Rattle.cases.proofs.Bools.{holds as test-holds}
 use Rattle.cases.proofs.Loops.{iterate_end, iterate_count}
@@ -16,7 +15,7 @@ use Rattle.protection.specs.State.{Kind, absent, State}
 use Rattle.protection.specs.Execution.{renew}
 use Rattle.protection.specs.Part.{without}
 use Rattle.matrix.specs.Canonical.{Canonical}
-use Rattle.matrix.specs.Matrices.{state_of, matrix_of, renewed}
+use Rattle.matrix.specs.Matrices.{state_of, renewed}
 use Rattle.matrix.specs.declared.Matrix.{Matrix}
 use Rattle.matrix.proofs.Operations.{renewed_state, renewed_canonical}
 use Rattle.policy.specs.declared.Policy.{Policy}
@@ -125,7 +124,7 @@ pub drop_end : (z x : ℕ) (m m₀ : Matrix) → 32 ≤ x → iterate (drop_at z
 unfolding dropped
 drop_end z x m m₀ h e = iterate_end (drop_at z) 32 (iterate (drop_at z) 32 0 m₀) x m h e
 
-pub part_is : (p : Policy) (z : ℕ) (ks cs : List ℕ) → matrix_of ks cs ≡ dropped (matrix_of p.matrix.kinds p.matrix.cells) z
-    → ◌≡◌ {A = Policy} (record { rights = p.rights; commands = p.commands; matrix = record { kinds = ks; cells = cs }; carries = p.carries; carried = p.carried; carriers = p.carriers; command = p.command }) (part_of p z)
+pub part_is : (p : Policy) (z : ℕ) (m : Matrix) → m ≡ dropped p.matrix z
+    → ◌≡◌ {A = Policy} (record { rights = p.rights; commands = p.commands; matrix = m; carries = p.carries; carried = p.carried; carriers = p.carriers; command = p.command }) (part_of p z)
 unfolding part_of
-part_is p z ks cs e = ap (λ (m : Matrix). record { rights = p.rights; commands = p.commands; matrix = m; carries = p.carries; carried = p.carried; carriers = p.carriers; command = p.command }) e
+part_is p z m e = ap (λ (w : Matrix). record { rights = p.rights; commands = p.commands; matrix = w; carries = p.carries; carried = p.carried; carriers = p.carriers; command = p.command }) e

@@ -1,8 +1,8 @@
 -- The judge of a part on a file: where nothing is refused its answer is the truth about all runs from the part, and an unsafe part is an unsafe whole; and so
 -- answer and buffer are all that is to be shown of the code. Assumes nothing.
 use Prim.Native.Nat.{ℕ, ◌*◌, ◌-◌, ◌≤◌, ◌<◌}
-use mathlib.Core.Path.{◌≡◌, refl, sym, ap, ap₂, ◌∙◌, subst, fun_ext}
-use mathlib.Core.Bool.{Bool, true, false}
+use mathlib.Core.Path.{◌≡◌, sym, ap, ap₂, ◌∙◌, subst, fun_ext}
+use mathlib.Core.Bool.{Bool, false}
 use mathlib.Core.List.{List, []}
 use native.Mathlib.Omega.{arith}
 use native.Mathlib.Nat.{le_trans}
@@ -10,15 +10,15 @@ use native.Mathlib.Decide.{ℕ_discrete}
 use borrow.Author.Tests.{ne_eqb}
 use lib.Dec.{T, eqb}
 use lib.ListN.{length, take, drop}
+use Rattle.std.specs.Prelude.{Result, IsErrAnd}
 use Rattle.cases.specs.Cases.{pick}
 use Rattle.rights.specs.Rights.{has}
 use Rattle.protection.specs.Limits.{names, start_names}
 use Rattle.protection.specs.State.{State, object_in}
-use Rattle.protection.specs.Command.{Call}
-use Rattle.protection.specs.Size.{names_of, taken_names, step_bound}
+use Rattle.protection.specs.Size.{taken_names, step_bound}
 use Rattle.protection.specs.Execution.{unbounded}
 use Rattle.protection.specs.Leak.{LeaksLast}
-use Rattle.protection.specs.Judge.{none_reserved, leak_beside, Verdict, judge_beside, Settled}
+use Rattle.protection.specs.Judge.{none_reserved, leak_beside, Verdict, judge_beside}
 use Rattle.protection.specs.Part.{without}
 use Rattle.protection.proofs.Saturation.{Taken, rounds_settled}
 use Rattle.protection.proofs.Trusted.{part_bound, part_names, part_taken, part_leaks_bounded, part_leaks, part_unsafe}
@@ -28,32 +28,35 @@ use Rattle.matrix.proofs.Inverse.{view_proper}
 use Rattle.layout.specs.Refusals.{or_else}
 use Rattle.layout.proofs.Accepted.{or-else}
 use Rattle.layout.proofs.OrElse.{or_first, or_second}
-use Rattle.policy.specs.Contents.{system_of, policy_of, policy_read, file_state, file_system}
+use Rattle.refusals.specs.declared.Refusal.{Refusal}
+use Rattle.refusals.specs.Numbers.{number_of}
+use Rattle.refusals.proofs.Codes.{number_above}
+use Rattle.policy.specs.Refusals.{refusal}
+use Rattle.policy.specs.Contents.{system_of, policy_of, file_state, file_system}
 use Rattle.policy.specs.Fits.{PolicyFits}
 use Rattle.masks.specs.Told.{Told, ToldBy}
 use Rattle.masks.specs.declared.Tables.{Tables}
 use Rattle.questions.proofs.Starting.{policy_told}
 use Rattle.policy.specs.declared.Policy.{Policy}
-use Rattle.policy.specs.declared.PolicyRead.{PolicyRead}
 use Rattle.policy.proofs.ReadPolicy.{policy_fits_read}
 use Rattle.goals.specs.Goals.{leak_goal}
-use Rattle.visits.specs.Engine.{bound_of, Asked}
+use Rattle.visits.specs.Engine.{Asked}
 use Rattle.questions.proofs.Refusals.{Sized, sized, goal_asked}
 use Rattle.trace.specs.Traces.{calls}
 use Rattle.trace.specs.Replays.{file_replay}
-use Rattle.trace.specs.declared.Replay.TheVariants.{Leak}
-use Rattle.safety.specs.Demand3.{is_unsafe, steps_written, Demand3}
-use Rattle.safety.specs.Judgement.{caller_refusal, judge_refusal, file_verdict, judgement_of, judgement_by, file_judgement, filled, buffer_by, file_buffer, Judged}
+use Rattle.trace.specs.Replays.{Leak}
+use Rattle.safety.specs.declared.Verdict.{Verdict as CodeVerdict}
+use Rattle.safety.specs.Demand3.{judgement_told, is_unsafe, steps_written, Demand3}
+use Rattle.safety.specs.Judgement.{caller_refusal, judge_refusal, file_verdict, judgement_of, judgement_by, file_judgement, filled, buffer_by, file_buffer}
 use Rattle.safety.specs.Conclusion.{Concluded}
-use Rattle.safety.specs.declared.Judgement.{Judgement}
-use Rattle.safety.specs.declared.Judgement.TheVariants.{Refused, Safe, Unsafe}
+use Rattle.safety.specs.Demand3.{Judgement}
+use Rattle.safety.specs.Demand3.{Refused, Unsafe}
 use Rattle.safety.proofs.Buffers.{calls_back}
-use Rattle.safety.proofs.Refusals.{passed, answers, turned_down, writes, untouched, judges, leak_fits}
-use Rattle.safety.proofs.Demand3.{told, verdict_demand3, not_refused, file_taken, verdict_replays, judged, refusal_first, policy_is, refusal_is}
+use Rattle.safety.proofs.Refusals.{passed, answers, turned_down, writes, judges, leak_fits}
+use Rattle.safety.proofs.Demand3.{told, verdict_demand3, not_refused, file_taken, verdict_replays, judged, told_on}
 use Rattle.parts.specs.Parts.{listed_in, left_out, trusted_refusal, part_refusal, file_part, part_verdict, part_judgement, part_buffer, PartJudged}
-use Rattle.parts.specs.Dropped.{mask_of, trusted_read, dropped, part_of}
-use Rattle.parts.specs.declared.Trusted.{Trusted}
-use Rattle.parts.proofs.Lists.{mask_listed, mask_read, left_there, read_refused}
+use Rattle.parts.specs.Dropped.{mask_of, dropped, part_of}
+use Rattle.parts.proofs.Lists.{mask_listed, left_there}
 use Rattle.parts.proofs.Dropping.{dropped_canonical, dropped_state}
 
 -- ---- what is promised of the definitions
@@ -168,101 +171,105 @@ module _ (f : List ℕ) (r : ℕ) (l b : List ℕ) where
   unfolding part_judgement part_buffer
   refused_with k ne e = let z : eqb k 0 ≡ false = ne_eqb k 0 ne in part_judged f r l b (Refused k) b (rw (e, z)) (rw (e, z))
 
-  refused_first : (k : ℕ) → (k ≡ 0 → ⊥) → judge_refusal f r (length b) ≡ k → PartJudged f r l b (Refused k) b
+  above : (d : Refusal) → number_of d ≡ 0 → ⊥
+  above d e = let h = number_above d in omega arith
+
+  -- a refusal is handed on
+  handed : (y : Result CodeVerdict Refusal) (d : Refusal) → IsErrAnd y (λ e. e ≡ d) → part_refusal f r l (length b) ≡ number_of d → PartJudged f r l b (judgement_told y) b
+  handed y d h e = subst (λ (w : Judgement). PartJudged f r l b w b) (sym (told_on y d h)) (refused_with (number_of d) (above d) e)
+
+  handed_first : (y : Result CodeVerdict Refusal) (d : Refusal) → IsErrAnd y (λ e. e ≡ d) → judge_refusal f r (length b) ≡ number_of d → PartJudged f r l b (judgement_told y) b
   unfolding part_refusal
-  refused_first k ne e = refused_with k ne (or_first (judge_refusal f r (length b)) (trusted_refusal (file_state f) l) (λ q. ne (sym e ∙ q)) ∙ e)
+  handed_first y d h e = handed y d h (or_first (judge_refusal f r (length b)) (trusted_refusal (file_state f) l) (λ q. above d (sym e ∙ q)) ∙ e)
 
-  module _ (x : PolicyRead) (d : x ≡ policy_read f) where
-    pub part_file_refused : (x.refused ≡ 0 → ⊥) → PartJudged f r l b (Refused x.refused) b
-    part_file_refused ne = refused_first x.refused ne (refusal_first f r b x d ne)
+  pub part_file_refused : (y : Result CodeVerdict Refusal) (d : Refusal) → IsErrAnd y (λ e. e ≡ d) → number_of d ≡ refusal f → PartJudged f r l b (judgement_told y) b
+  unfolding judge_refusal
+  part_file_refused y d h e = handed_first y d h (or_first (refusal f) (caller_refusal (file_system f) (file_state f) r (length b)) (λ q. above d (e ∙ q)) ∙ sym e)
 
-    module _ (z : x.refused ≡ 0) where
-      abbrev p : Policy
-      p = x.policy
+  -- of a file that was read
+  module _ (p : Policy) (u : 0 ≡ refusal f) (p-is : p ≡ policy_of f) where
+    abbrev m : State
+    m = state_of p.matrix
 
-      abbrev m : State
-      m = state_of x.policy.matrix
+    caller_is : judge_refusal f r (length b) ≡ caller_refusal (system_of p) m r (length b)
+    unfolding judge_refusal policy_of
+    caller_is = or_second (refusal f) (caller_refusal (file_system f) (file_state f) r (length b)) (sym u) ∙ ap (λ (q : Policy). caller_refusal (system_of q) (state_of q.matrix) r (length b)) (sym p-is)
 
-      pub part_caller_refused : (k : ℕ) → k ≡ caller_refusal (system_of p) m r (length b) → (k ≡ 0 → ⊥) → PartJudged f r l b (Refused k) b
-      part_caller_refused k e ne = refused_first k ne (refusal_is f r b x d z k e)
+    pub part_caller_refused : (y : Result CodeVerdict Refusal) (d : Refusal) → IsErrAnd y (λ e. e ≡ d) → number_of d ≡ caller_refusal (system_of p) m r (length b) → PartJudged f r l b (judgement_told y) b
+    part_caller_refused y d h e = handed_first y d h (caller_is ∙ sym e)
 
-      module _ (k : ℕ) (e : k ≡ caller_refusal (system_of p) m r (length b)) (n : k ≡ 0) (t : Trusted) (t-is : t ≡ trusted_read (view x.policy.matrix.kinds []) l) where
-        refused_is : t.refused ≡ trusted_refusal m l
+    module _ (n : 0 ≡ caller_refusal (system_of p) m r (length b)) where
+      file_refusal : part_refusal f r l (length b) ≡ trusted_refusal m l
+      unfolding part_refusal policy_of
+      file_refusal =
+          or_second (judge_refusal f r (length b)) (trusted_refusal (file_state f) l) (caller_is ∙ sym n)
+          ∙ ap (λ (q : Policy). trusted_refusal (state_of q.matrix) l) (sym p-is)
+
+      pub part_list_refused : (y : Result CodeVerdict Refusal) (d : Refusal) → IsErrAnd y (λ e. e ≡ d) → number_of d ≡ trusted_refusal (view p.matrix.kinds []) l → PartJudged f r l b (judgement_told y) b
+      unfolding trusted_refusal
+      part_list_refused y d h e = handed y d h (file_refusal ∙ sym e)
+
+      -- the names of the list are the digits of z
+      module _ (o : 0 ≡ trusted_refusal (view p.matrix.kinds []) l) (z : ℕ) (mask-is : z ≡ mask_of l (length l)) where
+        none : trusted_refusal m l ≡ 0
         unfolding trusted_refusal
-        refused_is = read_refused (view x.policy.matrix.kinds []) l t t-is
+        none = sym o
 
-        file_refusal : part_refusal f r l (length b) ≡ t.refused
-        unfolding part_refusal policy_of
-        file_refusal =
-            or_second (judge_refusal f r (length b)) (trusted_refusal (file_state f) l) (refusal_is f r b x d z k e ∙ n)
-            ∙ ap (λ (q : Policy). trusted_refusal (state_of q.matrix) l) (sym (policy_is f r b x d z)) ∙ sym refused_is
+        same_names : has z ≡ left_out l
+        same_names = fun_ext (λ y. ap (λ (w : ℕ). has w y) mask-is ∙ mask_listed l (length l) y)
 
-        pub part_list_refused : (t.refused ≡ 0 → ⊥) → PartJudged f r l b (Refused t.refused) b
-        part_list_refused ne = refused_with t.refused ne file_refusal
+        there : (y : ℕ) → T (has z y) → T (object_in m y)
+        there y h = left_there m l none y (subst (λ (R : ℕ → Bool). T (R y)) same_names h)
 
-        module _ (o : t.refused ≡ 0) where
-          none : trusted_refusal m l ≡ 0
-          none = sym refused_is ∙ o
+        fits : PolicyFits p
+        fits = policy_fits_read f p (sym u) p-is
 
-          mask_is : t.mask ≡ mask_of l (length l)
-          unfolding trusted_refusal
-          mask_is = mask_read (view x.policy.matrix.kinds []) l none t t-is
+        small : (y : ℕ) → T (has z y) → y < names
+        small y h = (view_proper p.rights p.matrix.kinds p.matrix.cells fits.matrix_fits).named y (there y h)
 
-          same_names : has t.mask ≡ left_out l
-          same_names = fun_ext (λ y. ap (λ (w : ℕ). has w y) mask_is ∙ mask_listed l (length l) y)
+        part_state : state_of (dropped p.matrix z) ≡ without (has z) m
+        part_state = dropped_state p.rights p.matrix fits.matrix_fits z small
 
-          there : (y : ℕ) → T (has t.mask y) → T (object_in m y)
-          there y h = left_there m l none y (subst (λ (R : ℕ → Bool). T (R y)) same_names h)
+        part_fits : PolicyFits (part_of p z)
+        unfolding part_of
+        part_fits = record {
+          some_right = fits.some_right;
+          few_rights = fits.few_rights;
+          few_commands = fits.few_commands;
+          matrix_fits = dropped_canonical p.rights p.matrix fits.matrix_fits z;
+          commands_fit = fits.commands_fit;
+          carries_fit = fits.carries_fit;
+          carried_is = fits.carried_is;
+          carriers_is = fits.carriers_is;
+        }
 
-          fits : PolicyFits p
-          fits = policy_fits_read f x d z
+        size : Sized (system_of p) m (length b)
+        size = sized (system_of p) m (length b) (passed (system_of p) m r (length b) (sym n)).size
 
-          small : (y : ℕ) → T (has t.mask y) → y < names
-          small y h = (view_proper p.rights p.matrix.kinds p.matrix.cells fits.matrix_fits).named y (there y h)
+        few : taken_names (has z) (state_of (dropped p.matrix z)) ≤ start_names
+        few = subst (λ (w : State). taken_names (has z) w ≤ start_names) (sym part_state) (le_trans (part_names (has z) m there) size.few_names)
 
-          part_state : state_of (dropped p.matrix t.mask) ≡ without (has t.mask) m
-          part_state = dropped_state p.rights p.matrix fits.matrix_fits t.mask small
+        space : 5 * step_bound p.rights (state_of (dropped p.matrix z)) ≤ length b
+        space = subst (λ (w : State). 5 * step_bound p.rights w ≤ length b) (sym part_state) (omega (arith, part_bound (has z) m p.rights, size.room))
 
-          part_fits : PolicyFits (part_of p t.mask)
-          unfolding part_of
-          part_fits = record {
-            some_right = fits.some_right;
-            few_rights = fits.few_rights;
-            few_commands = fits.few_commands;
-            matrix_fits = dropped_canonical p.rights p.matrix fits.matrix_fits t.mask;
-            commands_fit = fits.commands_fit;
-            carries_fit = fits.carries_fit;
-            carried_is = fits.carried_is;
-            carriers_is = fits.carriers_is;
-          }
+        pub part_asked : Asked (part_of p z) (leak_goal z r) (length b)
+        unfolding part_of
+        part_asked = goal_asked (part_of p z) (leak_goal z r) (length b) size.single few space part_fits (leak_fits z r)
 
-          size : Sized (system_of p) m (length b)
-          size = sized (system_of p) m (length b) (passed (system_of p) m r (length b) (sym e ∙ n)).size
+        pub part_below : r < p.rights
+        part_below = (passed (system_of p) m r (length b) (sym n)).below
 
-          few : taken_names (has t.mask) (state_of (dropped p.matrix t.mask)) ≤ start_names
-          few = subst (λ (w : State). taken_names (has t.mask) w ≤ start_names) (sym part_state) (le_trans (part_names (has t.mask) m there) size.few_names)
+        verdict_is : judge_beside (system_of p) (has z) r (state_of (dropped p.matrix z)) ≡ part_verdict f r l
+        unfolding policy_of
+        verdict_is =
+            ap (judge_beside (system_of p) (has z) r) part_state
+            ∙ ap₂ (λ (R : ℕ → Bool) (q : Policy). judge_beside (system_of q) R r (without R (state_of q.matrix))) same_names p-is
 
-          space : 5 * step_bound p.rights (state_of (dropped p.matrix t.mask)) ≤ length b
-          space = subst (λ (w : State). 5 * step_bound p.rights w ≤ length b) (sym part_state) (omega (arith, part_bound (has t.mask) m p.rights, size.room))
-
-          pub part_asked : Asked (part_of p t.mask) (leak_goal t.mask r) (length b)
-          unfolding part_of
-          part_asked = goal_asked (part_of p t.mask) (leak_goal t.mask r) (length b) size.single few space part_fits (leak_fits t.mask r)
-
-          pub part_below : r < p.rights
-          part_below = (passed (system_of p) m r (length b) (sym e ∙ n)).below
-
-          verdict_is : judge_beside (system_of p) (has t.mask) r (state_of (dropped p.matrix t.mask)) ≡ part_verdict f r l
-          unfolding policy_of
-          verdict_is =
-              ap (judge_beside (system_of p) (has t.mask) r) part_state
-              ∙ ap₂ (λ (R : ℕ → Bool) (q : Policy). judge_beside (system_of q) R r (without R (state_of q.matrix))) same_names (policy_is f r b x d z)
-
-          pub part_file_judged : (answer : Judgement) (b' : List ℕ) → Concluded (part_of p t.mask) t.mask r b answer b' → PartJudged f r l b answer b'
-          unfolding part_of
-          part_file_judged answer b' C =
-              let g : part_refusal f r l (length b) ≡ 0 = file_refusal ∙ o in
-              part_judged f r l b answer b' (C.answer_is ∙ ap judgement_of verdict_is ∙ sym (answer_given f r l b g)) (C.buffer_is ∙ ap (λ (y : Verdict). filled y.steps b) verdict_is ∙ sym (buffer_filled f r l b g))
+        pub part_file_judged : (answer : Judgement) (b' : List ℕ) → Concluded (part_of p z) z r b answer b' → PartJudged f r l b answer b'
+        unfolding part_of
+        part_file_judged answer b' C =
+            let g : part_refusal f r l (length b) ≡ 0 = file_refusal ∙ none in
+            part_judged f r l b answer b' (C.answer_is ∙ ap judgement_of verdict_is ∙ sym (answer_given f r l b g)) (C.buffer_is ∙ ap (λ (y : Verdict). filled y.steps b) verdict_is ∙ sym (buffer_filled f r l b g))
 
 -- ---- the policy that `part_of` gives
 module _ (p : Policy) (z r : ℕ) (q : Policy) (e : q ≡ part_of p z) where

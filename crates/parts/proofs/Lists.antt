@@ -1,28 +1,26 @@
 -- The list of names as a mask, and what is refused of it. Assumes nothing.
-use Prim.Native.Nat.{ℕ, zero, suc, ◌+◌, ◌*◌, ◌-◌, ◌/◌, ◌%◌, ◌^◌, ◌≤◌, ◌<◌}
+use Prim.Native.Nat.{ℕ, zero, suc, ◌+◌, ◌*◌, ◌-◌, ◌%◌, ◌^◌, ◌≤◌, ◌<◌}
 use mathlib.Core.Path.{◌≡◌, refl, sym, ap, ◌∙◌, subst}
 use mathlib.Core.Bool.{Bool, true, false, not, ◌&&◌, ◌||◌}
-use mathlib.Core.List.{List, []}
+use mathlib.Core.List.{List}
 use native.Mathlib.Omega.{arith}
 use native.Mathlib.Nat.{sub-zero}
 use native.Mathlib.Numerals.{add-one}
 use native.Mathlib.Decide.{ℕ_discrete}
-use borrow.Author.Tests.{eq-eqb, ne_eqb, lt-ltb, le-ltb}
+use borrow.Author.Tests.{eq-eqb, ne_eqb}
 use lib.Bits.{bit_or}
-use lib.Dec.{T, eqb, ltb, eqb→eq, ltb→lt}
+use lib.Dec.{T, eqb, ltb, eqb→eq}
 use lib.ListN.{length, get_or}
 use Rattle.cases.specs.Cases.{pick, all}
-use Rattle.cases.proofs.Bools.{and_left, and_right, holds as test-holds}
+use Rattle.cases.proofs.Bools.{and_right, holds as test-holds}
 use Rattle.cases.proofs.Loops.{all_stop, all_more, all_end, all_at}
 use Rattle.rights.specs.Rights.{has, insert}
 use Rattle.rights.proofs.Sets.{has_none, has_insert_same, has_insert_other}
 use Rattle.rights.proofs.Bits.{one_shl}
 use Rattle.protection.specs.Limits.{names}
-use Rattle.protection.specs.State.{is_object, State, object_in}
-use Rattle.matrix.specs.Bytes.{kind_of, view}
+use Rattle.protection.specs.State.{State, object_in}
 use Rattle.parts.specs.Parts.{listed_in, left_out, can_leave, trusted_refusal}
-use Rattle.parts.specs.Dropped.{mask_of, trusted_read}
-use Rattle.parts.specs.declared.Trusted.{Trusted}
+use Rattle.parts.specs.Dropped.{mask_of}
 
 -- ---- the mask
 pub mask_listed : (l : List ℕ) (n x : ℕ) → has (mask_of l n) x ≡ listed_in l n x
@@ -36,20 +34,6 @@ mask_listed l (suc n) x = go (mask_listed l n x) (ℕ_discrete (get_or l n 0) x)
 
 pub with_is : (z x r : ℕ) → x < names → r ≡ bit_or z ((1 * 2 ^ x) % 2 ^ 32) → r ≡ insert z x
 with_is z x r l e = e ∙ ap (bit_or z) (one_shl 32 x l)
-
--- ---- one name
-module _ (ks : List ℕ) (z x : ℕ) where
-  abbrev leaves : Bool
-  leaves = can_leave (view ks []) (has z) x
-
-  pub leave_above : 32 ≤ x → false ≡ leaves
-  leave_above l = rw (le-ltb x 32 l)
-
-  pub leave_listed : x < 32 → z / 2 ^ x % 2 ≡ 1 → false ≡ leaves
-  leave_listed l e = rw (lt-ltb x 32 l, eq-eqb (z / 2 ^ x % 2) 1 e)
-
-  pub leave_there : x < 32 → (z / 2 ^ x % 2 ≡ 1 → ⊥) → (r : Bool) → r ≡ is_object (kind_of (get_or ks x 0)) → r ≡ leaves
-  leave_there l f r d = d ∙ rw (lt-ltb x 32 l, ne_eqb (z / 2 ^ x % 2) 1 f)
 
 -- ---- the loop
 module _ (m : State) (l : List ℕ) where
@@ -68,19 +52,10 @@ module _ (m : State) (l : List ℕ) where
   unfolding mask_of
   reading_start = record { within = omega arith; mask_is = refl; rest = ap (λ (n : ℕ). all taken_at n 0) (sub-zero (length l)) }
 
-  refused_is : false ≡ whole → ◌≡◌ {A = Trusted} (record { refused = 42; mask = 0 }) (trusted_read m l)
-  unfolding trusted_refusal
-  refused_is e = rw (← e)
-
-  read_is : true ≡ whole → (z : ℕ) → z ≡ mask_of l (length l) → ◌≡◌ {A = Trusted} (record { refused = 0; mask = z }) (trusted_read m l)
-  unfolding trusted_refusal
-  read_is e z d = rw (← e, d)
-
   module _ (z i : ℕ) (K : Reading z i) where
-    pub reading_end : length l ≤ i → ◌≡◌ {A = Trusted} (record { refused = 0; mask = z }) (trusted_read m l)
-    reading_end h =
-        let e : i ≡ length l = omega (arith, K.within) in
-        read_is (all_end taken_at (length l) whole i h K.rest) z (K.mask_is ∙ ap (mask_of l) e)
+    pub reading_end : length l ≤ i → 0 ≡ trusted_refusal m l
+    unfolding trusted_refusal
+    reading_end h = let e : true ≡ whole = all_end taken_at (length l) whole i h K.rest in rw (← e)
 
     module _ (h : i < length l) (x : ℕ) (x-is : x ≡ get_or l i 0) (r : Bool) (r-is : r ≡ can_leave m (has z) x) where
       this : r ≡ taken_at i
@@ -88,22 +63,16 @@ module _ (m : State) (l : List ℕ) where
           r-is ∙ ap (can_leave m (has z)) x-is
           ∙ ap (λ (b : Bool). (ltb (get_or l i 0) names && not b) && object_in m (get_or l i 0)) (ap (λ (y : ℕ). has y (get_or l i 0)) K.mask_is ∙ mask_listed l i (get_or l i 0))
 
-      pub reading_refused : not r ≡ true → ◌≡◌ {A = Trusted} (record { refused = 42; mask = 0 }) (trusted_read m l)
-      reading_refused t = refused_is (all_stop taken_at (length l) whole i r this t h K.rest)
+      pub reading_refused : r ≡ false → 42 ≡ trusted_refusal m l
+      unfolding trusted_refusal
+      reading_refused t = let e : false ≡ whole = all_stop taken_at (length l) whole i r this (ap not t) h K.rest in rw (← e)
 
-      pub reading_small : not r ≡ false → x < 32
-      reading_small t = go r refl t
-        where
-          go : (u : Bool) → r ≡ u → not u ≡ false → x < 32
-          go true e q = ltb→lt x 32 (and_left (ltb x 32) (not (has z x)) (and_left (ltb x 32 && not (has z x)) (object_in m x) (test-holds (can_leave m (has z) x) (sym r-is ∙ e))))
-          go false e q = absurd (let w : ◌≡◌ {A = ℕ} 0 1 = cc in omega arith)
-
-      pub reading_next : not r ≡ false → (z' : ℕ) → z' ≡ insert z x → Reading z' (i + 1)
+      pub reading_next : r ≡ true → (z' : ℕ) → z' ≡ insert z x → Reading z' (i + 1)
       unfolding mask_of
       reading_next t z' e = record {
         within = omega arith;
         mask_is = e ∙ ap (λ (y : ℕ). insert y x) K.mask_is ∙ ap (insert (mask_of l i)) x-is ∙ ap (mask_of l) (sym (add-one i));
-        rest = all_more taken_at (length l) whole i r this t h K.rest;
+        rest = all_more taken_at (length l) whole i r this (ap not t) h K.rest;
       }
 
 -- ---- a list that is not refused
@@ -115,9 +84,6 @@ module _ (m : State) (l : List ℕ) (e : trusted_refusal m l ≡ 0) where
       go : (b : Bool) → ◌≡◌ {A = ℕ} (pick b 0 42) 0 → b ≡ true
       go true q = refl
       go false q = absurd (omega (arith, q))
-
-  pub mask_read : (x : Trusted) → x ≡ trusted_read m l → x.mask ≡ mask_of l (length l)
-  mask_read x d = ap (λ (y : Trusted). y.mask) d ∙ rw (eq-eqb (trusted_refusal m l) 0 e)
 
   entry_there : (i : ℕ) → i < length l → T (object_in m (get_or l i 0))
   entry_there i h = and_right (ltb (get_or l i 0) names && not (listed_in l i (get_or l i 0))) (object_in m (get_or l i 0)) (test-holds (taken_at m l i) (all_at (taken_at m l) (length l) 0 all_taken i (omega arith) (omega arith)))
@@ -134,12 +100,3 @@ module _ (m : State) (l : List ℕ) (e : trusted_refusal m l ≡ 0) where
   -- the names that are dropped exist
   pub left_there : (x : ℕ) → T (left_out l x) → T (object_in m x)
   left_there x t = listed_there (length l) (omega arith) x t
-
--- what the struct says of refusals
-pub read_refused : (m : State) (l : List ℕ) (x : Trusted) → x ≡ trusted_read m l → x.refused ≡ trusted_refusal m l
-unfolding trusted_refusal
-read_refused m l x d = ap (λ (y : Trusted). y.refused) d ∙ go (whole m l)
-  where
-    go : (b : Bool) → (pick {A = Trusted} (eqb (pick b 0 42) 0) (record { refused = 0; mask = mask_of l (length l) }) (record { refused = 42; mask = 0 })).refused ≡ pick b 0 42
-    go true = refl
-    go false = refl

@@ -1,22 +1,16 @@
 -- The list as a mask, and the part of a policy: what the functions over them give.
-use Rattle.std.specs.Prelude.{ℕ, zero, suc, List, eqb, length, get_or}
+use Rattle.std.specs.Prelude.{ℕ, zero, suc, List, get_or}
 use Rattle.cases.specs.Cases.{pick, iterate}
 use Rattle.rights.specs.Rights.{has, insert}
 use Rattle.protection.specs.Limits.{names}
-use Rattle.protection.specs.State.{State}
 use Rattle.matrix.specs.Matrices.{renewed}
 use Rattle.matrix.specs.declared.Matrix.{Matrix}
 use Rattle.policy.specs.declared.Policy.{Policy}
-use Rattle.parts.specs.Parts.{trusted_refusal}
-use Rattle.parts.specs.declared.Trusted.{Trusted}
 
 -- the first n names of the list as digits of a mask
 unfoldable pub mask_of : List ℕ → ℕ → ℕ
 mask_of l zero = 0
 mask_of l (suc n) = insert (mask_of l n) (get_or l n 0)
-
-abbrev pub trusted_read : State → List ℕ → Trusted
-trusted_read m l = pick (eqb (trusted_refusal m l) 0) (record { refused = 0; mask = mask_of l (length l) }) (record { refused = 42; mask = 0 })
 
 -- name x is destroyed if it is a digit of z
 abbrev pub drop_at : ℕ → ℕ → Matrix → Matrix

@@ -10,12 +10,10 @@ use Rattle.protection.specs.Part.{without, judge_part}
 use Rattle.layout.specs.Refusals.{or_else}
 use Rattle.policy.specs.Contents.{file_state, file_system}
 use Rattle.trace.specs.Traces.{calls}
-use Rattle.trace.specs.Replays.{file_replay}
-use Rattle.trace.specs.declared.Replay.TheVariants.{Leak}
+use Rattle.trace.specs.Replays.{file_replay, Leak}
 use Rattle.safety.specs.Demand3.{is_unsafe, steps_written, Demand3}
 use Rattle.safety.specs.Judgement.{judge_refusal, judgement_by, file_judgement, buffer_by, Judged}
-use Rattle.safety.specs.declared.Judgement.{Judgement}
-use Rattle.safety.specs.declared.Judgement.TheVariants.{Unsafe}
+use Rattle.safety.specs.Demand3.{Judgement, Unsafe}
 
 -- ---- "Take a list of names", a byte each
 -- name x is one of the first n on the list

@@ -1,38 +1,36 @@
 -- An accepted file's kinds and cells are as the machine's state has them: read as a state and written back they are the same bytes. Assumes nothing.
-use Prim.Native.Nat.{ℕ, zero, suc, ◌+◌, ◌*◌, ◌-◌, ◌/◌, ◌%◌, ◌^◌, ◌≤◌, ◌<◌}
+use Prim.Native.Nat.{ℕ, ◌+◌, ◌*◌, ◌/◌, ◌%◌, ◌^◌, ◌≤◌, ◌<◌}
 use mathlib.Core.Path.{◌≡◌, refl, sym, ap, ap₂, ◌∙◌, subst}
 use mathlib.Core.Bool.{Bool, true, false, not}
 use mathlib.Core.List.{List, ◌++◌, append_assoc}
 use native.Mathlib.Decide.{dec_lt}
 use native.Mathlib.Omega.{arith}
 use borrow.Author.Tests.{leb-true, ltb-true, eqb-true, lt-ltb}
-use lib.Dec.{T, leb, eqb, ltb, T_not}
+use lib.Dec.{T, eqb, ltb}
 use lib.ListN.{length, get_or, take, drop, length-drop, take-append-drop, get_or-eq_default}
 use lib.Pow.{pow_pos}
 use lib.Seq.{length-take-le, drop-drop, get_or-take, get_or-drop}
-use Rattle.cases.specs.Cases.{pick, all}
-use Rattle.cases.proofs.Lists.{length_tabulate, get_d_tabulate}
+use Rattle.cases.specs.Cases.{pick}
+use Rattle.cases.proofs.Lists.{get_d_tabulate}
 use Rattle.cases.proofs.Loops.{all_at}
 use Rattle.rights.specs.Rights.{within}
-use Rattle.rights.specs.Bytes.{set_bytes, byte_values, sets_in, bytes_of}
+use Rattle.rights.specs.Bytes.{set_bytes, byte_values, bytes_of}
 use Rattle.rights.proofs.SetBytes.{length_sets, set_read, set_past, bytes_back}
 use Rattle.protection.specs.Limits.{names, rights, commands}
-use Rattle.protection.specs.State.{State}
-use Rattle.matrix.specs.Bytes.{inside, view, kinds_of, cells_of}
+use Rattle.matrix.specs.Bytes.{inside, kinds_of, cells_of}
 use Rattle.protection.specs.Proper.{Proper}
 use Rattle.matrix.specs.Canonical.{Canonical}
 use Rattle.matrix.proofs.Inverse.{view_proper, kinds_back, cells_back}
-use Rattle.layout.specs.File.{byte, rights_of, pairs_of, offset_of, length_of, start_of, section, kinds_in, cells_in, carries_in, fixed_pairs, command_in, commands_of}
+use Rattle.layout.specs.File.{byte, rights_of, pairs_of, offset_of, length_of, section, kinds_in, cells_in, carries_in, fixed_pairs, command_in, commands_of}
 use Rattle.matrix.specs.Refusals.{kind_fits, cell_fits}
 use Rattle.carries.proofs.Refusing.{carries_accepted}
-use Rattle.policy.specs.Refusals.{refusal}
 use Rattle.policy.specs.Contents.{over, written, file_state, command_table, policy_of}
 use Rattle.policy.specs.Fits.{PolicyFits}
 use Rattle.commands.specs.Contents.{no_command, missing, command_of}
 use Rattle.commands.specs.Fits.{Fits}
 use Rattle.commands.proofs.Fitting.{command_fits}
-use Rattle.layout.proofs.Accepted.{pairs_accepted, sizes_accepted, sections_placed}
-use Rattle.policy.proofs.Accepted.{Accepted, accepted, matrix_accepted}
+use Rattle.layout.proofs.Accepted.{pairs_accepted, sizes_accepted}
+use Rattle.policy.proofs.Accepted.{Accepted, matrix_accepted}
 
 -- ---- sections
 pub section_length : (f : List ℕ) (i : ℕ) → offset_of f i + length_of f i ≤ length f → length (section f i) ≡ length_of f i

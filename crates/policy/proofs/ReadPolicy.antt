@@ -1,33 +1,29 @@
 -- What whoever reads a file may rest on, once it was not refused. Assumes nothing.
-use Prim.Native.Nat.{ℕ, ◌+◌, ◌≤◌}
-use mathlib.Core.Path.{◌≡◌, sym, ◌∙◌, subst}
+use Prim.Native.Nat.{ℕ}
+use mathlib.Core.Path.{◌≡◌, sym, subst}
 use mathlib.Core.List.{List}
 use native.Mathlib.Omega.{arith}
 use Rattle.protection.specs.Limits.{rights}
 use Rattle.matrix.specs.Canonical.{Canonical}
 use Rattle.matrix.proofs.Inverse.{canonical_wider}
 use Rattle.layout.proofs.Accepted.{pairs_accepted, sizes_accepted}
+use Rattle.policy.specs.Refusals.{refusal}
 use Rattle.policy.specs.Layout.{MatrixInside}
-use Rattle.policy.specs.Contents.{policy_of, policy_read}
+use Rattle.policy.specs.Contents.{policy_of}
 use Rattle.policy.specs.Fits.{PolicyFits}
-use Rattle.policy.specs.declared.PolicyRead.{PolicyRead}
+use Rattle.policy.specs.declared.Policy.{Policy}
 use Rattle.policy.proofs.Accepted.{Accepted, accepted}
 use Rattle.policy.proofs.FileState.{policy_fits}
-use Rattle.policy.proofs.Laws.{read_refusal, read_policy}
 
-module _ (f : List ℕ) (x : PolicyRead) (d : x ≡ policy_read f) (z : x.refused ≡ 0) where
+module _ (f : List ℕ) (p : Policy) (z : refusal f ≡ 0) (d : p ≡ policy_of f) where
   pub accepted_file : Accepted f
-  accepted_file = accepted f (sym (read_refusal f x d) ∙ z)
+  accepted_file = accepted f z
 
-  pub policy_is : x.policy ≡ policy_of f
-  policy_is = read_policy f x d z
+  pub policy_fits_read : PolicyFits p
+  policy_fits_read = subst PolicyFits (sym d) (policy_fits f accepted_file)
 
-  pub policy_fits_read : PolicyFits x.policy
-  policy_fits_read = subst PolicyFits (sym policy_is) (policy_fits f accepted_file)
-
-  pub matrix_canonical : Canonical rights x.policy.matrix.kinds x.policy.matrix.cells
-  matrix_canonical =
-      let F = policy_fits_read in canonical_wider x.policy.rights rights x.policy.matrix.kinds x.policy.matrix.cells F.few_rights F.matrix_fits
+  pub matrix_canonical : Canonical rights p.matrix.kinds p.matrix.cells
+  matrix_canonical = let F = policy_fits_read in canonical_wider p.rights rights p.matrix.kinds p.matrix.cells F.few_rights F.matrix_fits
 
   pub matrix_inside : MatrixInside f
   matrix_inside =

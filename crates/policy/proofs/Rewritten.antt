@@ -2,22 +2,20 @@
 use Prim.Native.Nat.{ℕ, zero, suc, ◌+◌, ◌*◌, ◌-◌, ◌/◌, ◌%◌, ◌^◌, ◌≤◌, ◌<◌}
 use mathlib.Core.Path.{◌≡◌, refl, sym, ap, ap₂, ◌∙◌, subst}
 use mathlib.Core.Bool.{Bool, true, false, not}
-use mathlib.Core.List.{List, [], ◌∷◌, ◌++◌, append_assoc}
+use mathlib.Core.List.{List, ◌++◌, append_assoc}
 use native.Mathlib.Decide.{dec_lt}
 use native.Mathlib.Omega.{arith}
 use borrow.Author.Tests.{le-leb, le-ltb, lt-ltb, eq-eqb}
-use lib.Dec.{T, leb, eqb, ltb}
+use lib.Dec.{T, eqb, ltb}
 use lib.ListN.{length, get_or, take, drop, length-drop, length-append, take-append-drop, get_or-append}
 use lib.Seq.{length-take-le, drop_at, take_at, drop-drop, get_or-take, drop-append-le, take-append-le}
 use Rattle.cases.specs.Cases.{pick, all, tabulate}
 use Rattle.cases.proofs.Loops.{all_intro, all_same}
 use Rattle.cases.proofs.Lists.{tabulate_same}
-use Rattle.rights.specs.Rights.{within}
 use Rattle.rights.specs.Bytes.{set_bytes, sets_in, bytes_of}
 use Rattle.rights.proofs.SetBytes.{length_bytes, sets_back}
-use Rattle.protection.specs.Limits.{names, rights, commands, file_bytes}
+use Rattle.protection.specs.Limits.{names, rights, commands}
 use Rattle.protection.specs.State.{State}
-use Rattle.protection.specs.Command.{System}
 use Rattle.matrix.specs.Bytes.{inside, view, kinds_of, cells_of}
 use Rattle.protection.specs.Proper.{Proper}
 use Rattle.matrix.specs.Canonical.{Canonical}
@@ -31,7 +29,7 @@ use Rattle.policy.specs.Refusals.{commands_refusal, refusal}
 use Rattle.commands.specs.Contents.{command_of, no_command}
 use Rattle.policy.specs.Contents.{over, written, file_state, file_system, command_table, policy_of}
 use Rattle.layout.proofs.Accepted.{pairs_accepted, sizes_accepted, sections_placed}
-use Rattle.policy.proofs.Accepted.{Accepted, accepted}
+use Rattle.policy.proofs.Accepted.{Accepted}
 
 -- ---- bytes written over others
 module _ (f s : List ℕ) (at : ℕ) (h : at + length s ≤ length f) where

@@ -1,33 +1,23 @@
 -- What an accepted file says: its header, its matrix and its commands, as the reader hands them out; and the machine's state and commands that they stand for.
-use Rattle.std.specs.Prelude.{ℕ, ◌+◌, List, ◌++◌, length, get_or, take, drop, replicate, eqb, ltb}
+use Rattle.std.specs.Prelude.{ℕ, ◌+◌, List, ◌++◌, length, get_or, take, drop, ltb}
 use Rattle.cases.specs.Cases.{pick, tabulate}
 use Rattle.rights.specs.Bytes.{bytes_of}
-use Rattle.protection.specs.Limits.{rights, commands}
+use Rattle.protection.specs.Limits.{commands}
 use Rattle.protection.specs.State.{State}
 use Rattle.protection.specs.Command.{System}
 use Rattle.matrix.specs.Bytes.{view, kinds_of, cells_of}
-use Rattle.matrix.specs.Matrices.{empty_matrix}
 use Rattle.matrix.specs.declared.Matrix.{Matrix}
 use Rattle.layout.specs.File.{rights_of, offset_of, kinds_in, cells_in, carries_in, command_in, commands_of}
 use Rattle.carries.specs.Bytes.{carried_in}
 use Rattle.carries.specs.Closed.{carried_of, carriers_of}
 use Rattle.commands.specs.Contents.{no_command, missing, command_of, meaning}
 use Rattle.commands.specs.declared.Command.{Command}
-use Rattle.policy.specs.Refusals.{commands_refusal, refusal}
-use Rattle.policy.specs.declared.CommandsRead.{CommandsRead}
 use Rattle.policy.specs.declared.Policy.{Policy}
-use Rattle.policy.specs.declared.PolicyRead.{PolicyRead}
 
 -- ---- the whole file
-abbrev pub no_policy : Policy
-no_policy = record { rights = 0; commands = 0; matrix = empty_matrix; carries = replicate rights 0; carried = replicate rights 0; carriers = replicate rights 0; command = replicate commands no_command }
-
 -- the first n commands, and none in the places behind them
 unfoldable pub command_table : List ℕ → ℕ → List Command
 command_table f n = tabulate (λ i. pick (ltb i n) (command_of (command_in f i)) no_command) commands 0
-
-unfoldable pub commands_read : List ℕ → ℕ → CommandsRead
-commands_read f n = record { refused = commands_refusal f n 0; all = pick (eqb (commands_refusal f n 0) 0) (command_table f n) (replicate commands no_command) }
 
 abbrev pub matrix_in : List ℕ → Matrix
 matrix_in f = record { kinds = kinds_in f; cells = cells_in f }
@@ -43,13 +33,6 @@ policy_of f =
       carriers = carriers_of (rights_of f) (carries_in f);
       command = command_table f (commands_of f);
     }
-
-abbrev pub refused_read : ℕ → PolicyRead
-refused_read n = record { refused = n; policy = no_policy }
-
--- the refusal's number and a policy of nothing, or 0 and the file's contents
-unfoldable pub policy_read : List ℕ → PolicyRead
-policy_read f = pick (eqb (refusal f) 0) (record { refused = 0; policy = policy_of f }) (refused_read (refusal f))
 
 -- ---- what they stand for
 abbrev pub system_of : Policy → System

@@ -1,15 +1,19 @@
 // The whole file: its matrix, what its rights carry and its commands, read or refused (document 01, refusals 1 to 9; document 02, C-19, 44).
 #![tactic(auto)]
 
-ghost use Rattle.std.specs.Prelude.{◌≡◌, ◌+◌, ◌*◌, ◌≤◌, ◌<◌, length, get_or};
+ghost use Rattle.std.specs.Prelude.{◌≡◌, ◌+◌, ◌<◌, get_or, IfOk};
 ghost use Rattle.protection.specs.Limits.{commands};
-ghost use Rattle.layout.specs.File.{rights_of, carries_in, command_in};
-ghost use Rattle.policy.specs.Contents.{matrix_in, commands_read, no_policy, refused_read, policy_read};
-ghost use Rattle.commands.specs.Contents.{missing, command_read};
-ghost use Rattle.policy.specs.Layout.{MatrixInside, CarriesInside, CommandInside, CommandsInside};
+ghost use Rattle.refusals.specs.Numbers.{code};
+ghost use Rattle.layout.specs.File.{rights_of, section, carries_in, fixed_pairs, command_in};
+ghost use Rattle.commands.specs.Contents.{missing, command_of};
+ghost use Rattle.commands.specs.Refusals.{command_refusal};
+ghost use Rattle.policy.specs.Refusals.{commands_refusal, refusal};
+ghost use Rattle.policy.specs.Contents.{matrix_in, command_table, policy_of};
+ghost use Rattle.policy.specs.Layout.{SectionInside, MatrixInside, CommandsInside};
 
-use commands::{Command, CommandRead};
+use commands::Command;
 use matrix::Matrix;
+use refusals::Refusal;
 use rights::Set;
 
 // How many rights and commands there are, the matrix, and the commands; places behind the last command hold none. Of each right, what the file says that it
@@ -25,44 +29,26 @@ pub struct Policy {
     pub command: [Command; Policy::COMMANDS],
 }
 
-// refused is 0 where the file was read.
-#[derive(Clone, Copy)]
-pub struct PolicyRead {
-    pub refused: u8,
-    pub policy: Policy,
-}
-
-#[derive(Drop)]
-struct CommandsRead {
-    refused: u8,
-    all: [Command; Policy::COMMANDS],
-}
-
 impl Policy {
     pub const COMMANDS: usize = layout::COMMANDS;
 
-    // What goes with a refusal.
-    fn none() -> Self
-        ensures { result ≡ no_policy }
-    {
-        Policy {
-            rights: 0,
-            commands: 0,
-            matrix: Matrix::empty(),
-            carries: [rights::NONE; Matrix::RIGHTS as usize],
-            carried: [rights::NONE; Matrix::RIGHTS as usize],
-            carriers: [rights::NONE; Matrix::RIGHTS as usize],
-            command: [Command::none(); Policy::COMMANDS],
-        }
-    }
-
     // Command number i.
-    pub fn command_at(self, i: usize) -> Command
+    pub fn command_at(&self, i: usize) -> Command
         requires { i < commands }
-        ensures { result ≡ get_or self.command i missing }
+        ensures { result ≡ get_or self.now.command i missing }
     {
         self.command[i]
     }
+}
+
+// Section number i of the file.
+fn section(file: &[u8], i: usize) -> &[u8]
+    requires { SectionInside file.now i }
+    ensures { result.now ≡ section file.now i }
+{
+    let start = layout::word_at(file, 2 + 4 * i);
+    let length = layout::word_at(file, 2 + 4 * i + 2);
+    &file[start..start + length]
 }
 
 // The kinds and the cells.
@@ -70,116 +56,70 @@ fn matrix_of(file: &[u8]) -> Matrix
     requires { MatrixInside file.now }
     ensures { result ≡ matrix_in file.now }
 {
-    let k = layout::word_at(file, 2);
-    let k_end = k + Matrix::NAMES;
     let mut kinds = [0u8; Matrix::NAMES];
-    kinds.copy_from_slice(&file[k..k_end]);
-    let c = layout::word_at(file, 6);
-    let c_end = c + rights::bytes::SIZE * (Matrix::NAMES * Matrix::NAMES);
+    kinds.copy_from_slice(section(file, 0));
     let mut cells = [rights::NONE; Matrix::NAMES * Matrix::NAMES];
-    rights::bytes::read_sets(&file[c..c_end], &mut cells);
+    rights::bytes::read_sets(section(file, 1), &mut cells);
     Matrix { kinds, cells }
 }
 
 // The carries, in front of empty sets.
-fn carries_of(file: &[u8], g: u8) -> [Set; Matrix::RIGHTS as usize]
-    requires { CarriesInside file.now g }
+fn carries_of(file: &[u8]) -> [Set; Matrix::RIGHTS as usize]
+    requires { SectionInside file.now 2 }
     ensures { result ≡ carries_in file.now }
 {
-    let start = layout::word_at(file, 10);
-    let end = start + rights::bytes::SIZE * (g as usize);
     let mut carries = [rights::NONE; Matrix::RIGHTS as usize];
-    rights::bytes::read_sets(&file[start..end], &mut carries);
+    rights::bytes::read_sets(section(file, 2), &mut carries);
     carries
 }
 
 // Command number i, read from its own part of the file and no more.
-fn read_at(file: &[u8], g: u8, i: usize) -> CommandRead
-    requires { CommandInside file.now i }
-    ensures { result ≡ command_read g (command_in file.now i) }
+fn read_at(file: &[u8], g: u8, i: usize) -> Result<Command, Refusal>
+    requires { SectionInside file.now (fixed_pairs + i) }
+    ensures refused { code result ≡ command_refusal g (command_in file.now i) }
+    ensures read { IfOk result (λ c. c ≡ command_of (command_in file.now i)) }
 {
-    let p = 2 + 4 * (layout::FIXED + i);
-    let start = layout::word_at(file, p);
-    let end = start + layout::word_at(file, p + 2);
-    commands::read_command(&file[start..end], g)
+    commands::read_command(section(file, layout::FIXED + i), g)
 }
 
 // The commands, or the first refusal among them.
-fn read_commands(file: &[u8], g: u8, count: usize) -> CommandsRead
+fn read_commands(file: &[u8], g: u8, count: usize) -> Result<[Command; Policy::COMMANDS], Refusal>
     requires { (g ≡ rights_of file.now) × CommandsInside file.now count }
-    ensures { result ≡ commands_read file.now count }
+    ensures refused { code result ≡ commands_refusal file.now count 0 }
+    ensures read { IfOk result (λ all. all ≡ command_table file.now count) }
 {
     let mut all = [Command::none(); Policy::COMMANDS];
     for i in 0..count {
-        let read = read_at(file, g, i);
-        let refused = read.refused;
-        if refused != 0 {
-            return CommandsRead {
-                refused,
-                all: [Command::none(); Policy::COMMANDS],
-            };
-        }
-        let c = read.command;
-        all[i] = c;
+        all[i] = read_at(file, g, i)?;
     }
-    CommandsRead { refused: 0, all }
-}
-
-fn refused_with(n: u8) -> PolicyRead
-    ensures { result ≡ refused_read n }
-{
-    PolicyRead {
-        refused: n,
-        policy: Policy::none(),
-    }
+    Ok(all)
 }
 
 // What the file says, or why it is refused.
-pub fn read_policy(file: &[u8]) -> PolicyRead
-    ensures { result ≡ policy_read file.now }
+#[tactic(auto, using(crate::proofs::Policies::header_fits))]
+pub fn read_policy(file: &[u8]) -> Result<Policy, Refusal>
+    ensures refused { code result ≡ refusal file.now }
+    ensures read { IfOk result (λ p. p ≡ policy_of file.now) }
 {
-    let header = layout::header_refusal(file);
-    if header != 0 {
-        return refused_with(header);
-    }
+    layout::check_header(file)?;
     let g = file[0];
     let n = file[1] as usize;
-    let table = layout::pairs_refusal(file, n);
-    if table != 0 {
-        return refused_with(table);
-    }
-    let sizes = layout::sizes_refusal(file, g);
-    if sizes != 0 {
-        return refused_with(sizes);
-    }
+    layout::check_pairs(file, n)?;
+    layout::check_sizes(file, g)?;
     let matrix = matrix_of(file);
-    let cells = matrix::cells::matrix_refusal(g, &matrix.kinds, &matrix.cells);
-    if cells != 0 {
-        return refused_with(cells);
-    }
-    let carries = carries_of(file, g);
-    let beyond = carries::refusal(g, carries);
-    if beyond != 0 {
-        return refused_with(beyond);
-    }
-    let commands = read_commands(file, g, n - layout::FIXED);
-    let refused = commands.refused;
-    if refused != 0 {
-        return refused_with(refused);
-    }
-    let command = commands.all;
+    matrix.check(g)?;
+    let carries = carries_of(file);
+    carries::check(g, carries)?;
+    let command = read_commands(file, g, n - layout::FIXED)?;
     let carried = carries::carried(g, carries);
     let carriers = carries::carriers(carried);
-    PolicyRead {
-        refused: 0,
-        policy: Policy {
-            rights: g,
-            commands: (n - layout::FIXED) as u8,
-            matrix,
-            carries,
-            carried,
-            carriers,
-            command,
-        },
-    }
+    Ok(Policy {
+        rights: g,
+        commands: (n - layout::FIXED) as u8,
+        matrix,
+        carries,
+        carried,
+        carriers,
+        command,
+    })
 }

@@ -2,21 +2,18 @@
 use Prim.Native.Nat.{ℕ, zero, suc, ◌+◌, ◌*◌, ◌-◌, ◌≤◌, ◌<◌}
 use mathlib.Core.Path.{◌≡◌, refl, sym, ap, ap₂, ◌∙◌, subst}
 use mathlib.Core.Bool.{Bool, true, false, not, ◌&&◌}
-use mathlib.Core.List.{[]}
 use native.Mathlib.Omega.{arith}
-use native.Mathlib.Nat.{sub-zero}
 use native.Mathlib.Decide.{dec_lt}
 use borrow.Author.Tests.{lt-ltb, le-ltb}
 use lib.Dec.{ltb, ltb→lt}
-use lib.ListN.{get_or}
+use lib.ListN.{length, get_or, take}
 use Rattle.cases.specs.Cases.{pick, all, tabulate}
 use Rattle.cases.proofs.Bools.{holds as test-holds}
-use Rattle.cases.proofs.Loops.{all_at, all_false, all_true}
+use Rattle.cases.proofs.Loops.{all_at}
 use Rattle.protection.specs.Limits.{start_names}
 use Rattle.protection.specs.State.{State}
 use Rattle.protection.specs.Size.{names_of, taken_names, step_bound}
 use Rattle.protection.specs.Command.{System}
-use Rattle.matrix.specs.Bytes.{view}
 use Rattle.matrix.specs.Matrices.{state_of}
 use Rattle.commands.specs.Contents.{missing}
 use Rattle.commands.proofs.Reading.{operations_length}
@@ -28,11 +25,9 @@ use Rattle.goals.specs.Goals.{reserved_by, GoalFits}
 use Rattle.goals.proofs.Ending.{none-reserved}
 use Rattle.goals.specs.declared.Goal.{Goal}
 use Rattle.visits.specs.Engine.{bound_of, command_number, Asked}
+use Rattle.std.proofs.lemmas.List.{length-take-le, get_or-take, get_or_past}
 use Rattle.layout.proofs.Accepted.{or-else}
-use Rattle.layout.proofs.OrElse.{or_first, or_second}
 use Rattle.questions.specs.Refusals.{single_operations, start_refusal, size_refusal}
-use Rattle.questions.specs.Rounded.{BasisOf}
-use Rattle.questions.specs.declared.Basis.{Basis}
 
 -- ---- commands of one operation, by their numbers
 abbrev pub one_operation : Policy → ℕ → Bool
@@ -49,53 +44,27 @@ single_all p F (suc n) j l =
     both true c = refl
     both false c = refl
 
-pub single_start : (p : Policy) → PolicyFits p → (n : ℕ) → n ≡ p.commands → all (one_operation p) (n - 0) 0 ≡ single_operations (system_of p).commands
-single_start p F n e = rw (sub-zero n, e) (sym (single_all p F p.commands 0 (omega arith)))
+-- the commands that count, as the code takes them
+module _ (p : Policy) (F : PolicyFits p) where
+  pub commands_taken : length (take p.commands p.command) ≡ p.commands
+  commands_taken = length-take-le p.commands p.command (by (dec_lt (length p.command) p.commands))
+    where
+      by : Dec (length p.command < p.commands) → p.commands ≤ length p.command
+      by (yes l) = absurd (let e : (get_or p.command (length p.command) missing).operations ≡ 0 = ap (λ (c : Command). c.operations) (get_or_past p.command (length p.command) missing (omega arith)) in omega (arith, (F.commands_fit (length p.command) l).some_operation))
+      by (no l) = omega arith
 
-pub single_many : (p : Policy) (n i : ℕ) (whole : Bool) (c : Command) → c ≡ get_or p.command i missing → 2 ≤ c.operations → i < n → all (one_operation p) (n - i) i ≡ whole → false ≡ whole
-single_many p n i whole c e h l = all_false (one_operation p) n whole i (le-ltb (get_or p.command i missing).operations 2 (rw e at h)) l
+  module _ (i : ℕ) (l : i < p.commands) where
+    taken : get_or (take p.commands p.command) i missing ≡ get_or p.command i missing
+    taken = get_or-take p.commands p.command i missing l
 
-pub single_next : (p : Policy) (n i : ℕ) (whole : Bool) (c : Command) → c ≡ get_or p.command i missing → c.operations < 2 → i < n → all (one_operation p) (n - i) i ≡ whole
-    → all (one_operation p) (n - (i + 1)) (i + 1) ≡ whole
-single_next p n i whole c e h l = all_true (one_operation p) n whole i (lt-ltb (get_or p.command i missing).operations 2 (rw e at h)) l
+    pub single_yes : (get_or (take p.commands p.command) i missing).operations < 2 → one_operation p i ≡ true
+    single_yes h = lt-ltb (get_or p.command i missing).operations 2 (subst (λ (c : Command). c.operations < 2) taken h)
 
--- ---- what the code tests, one after the other
-module _ (p : Policy) (b : Bool) (e : b ≡ single_operations (system_of p).commands) where
-  abbrev answer : ℕ
-  answer = start_refusal (system_of p) (state_of p.matrix)
+    pub single_no : 2 ≤ (get_or (take p.commands p.command) i missing).operations → one_operation p i ≡ false
+    single_no h = le-ltb (get_or p.command i missing).operations 2 (subst (λ (c : Command). 2 ≤ c.operations) taken h)
 
-  pub start_22 : not b ≡ true → 22 ≡ answer
-  start_22 f = rw (← e, f)
-
-  module _ (f : not b ≡ false) (k : ℕ) (d : k ≡ names_of (view p.matrix.kinds [])) where
-    pub start_23 : 30 < k → 23 ≡ answer
-    start_23 h = let z : ltb 30 (names_of (state_of p.matrix)) ≡ true = lt-ltb 30 (names_of (state_of p.matrix)) (rw d at h) in rw (← e, f, z)
-
-    pub start_none : k ≤ 30 → 0 ≡ answer
-    start_none h = let z : ltb 30 (names_of (state_of p.matrix)) ≡ false = le-ltb 30 (names_of (state_of p.matrix)) (rw d at h) in rw (← e, f, z)
-
-module _ (p : Policy) (x : Basis) (B : BasisOf p x) (n : ℕ) where
-  abbrev size : ℕ
-  size = size_refusal (system_of p) (state_of p.matrix) n
-
-  abbrev short : ℕ
-  short = pick (ltb n (5 * bound_of p)) 24 0
-
-  pub size_start : (x.refused ≡ 0 → ⊥) → x.refused ≡ size
-  size_start ne = B.refused_is ∙ sym (or_first (start_refusal (system_of p) (state_of p.matrix)) short (λ q. ne (B.refused_is ∙ q)))
-
-  module _ (z : x.refused ≡ 0) where
-    size_rest : size ≡ short
-    size_rest = or_second (start_refusal (system_of p) (state_of p.matrix)) short (sym B.refused_is ∙ z)
-
-    pub size_24 : n < 5 * x.bound → 24 ≡ size
-    size_24 h = let w : ltb n (5 * bound_of p) ≡ true = lt-ltb n (5 * bound_of p) (rw B.bound_is at h) in ap (λ (b : Bool). pick b 24 0) (sym w) ∙ sym size_rest
-
-    pub size_none : 5 * x.bound ≤ n → 0 ≡ size
-    size_none h = let w : ltb n (5 * bound_of p) ≡ false = le-ltb n (5 * bound_of p) (rw B.bound_is at h) in ap (λ (b : Bool). pick b 24 0) (sym w) ∙ sym size_rest
-
-pub basis_fits : (x : Basis) → ((p : Policy) × BasisOf p x) → 5 * x.bound < 18446744073709551616
-basis_fits x B = omega (arith, B.1.bound_few)
+  pub single_is : (r : Bool) → r ≡ all (one_operation p) p.commands 0 → r ≡ single_operations (system_of p).commands
+  single_is r e = e ∙ sym (single_all p F p.commands 0 (omega arith))
 
 -- ---- a question that is not refused
 not_less : (a b : ℕ) → ltb a b ≡ false → b ≤ a

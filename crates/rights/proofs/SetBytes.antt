@@ -46,10 +46,6 @@ set_read n l c h = get_or_table n (set_in l) c h
 pub set_past : (l : List ℕ) (c : ℕ) → length l ≤ set_bytes * c → 0 ≡ set_in l c
 set_past l c h = rw (get_or-eq_default l 0 {n = set_bytes * c} h, get_or-eq_default l 0 {n = set_bytes * c + 1} (omega arith))
 
--- one whose second byte does
-pub set_half : (l : List ℕ) (c r : ℕ) → r ≡ get_or l (set_bytes * c) 0 + byte_values * 0 → length l ≤ set_bytes * c + 1 → r ≡ set_in l c
-set_half l c r e h = e ∙ rw (get_or-eq_default l 0 {n = set_bytes * c + 1} h)
-
 abbrev pub Reading : List ℕ → List ℕ → List ℕ → ℕ → Type 0
 Reading bytes old l c = Filling (length old) (set_in bytes) old l c
 

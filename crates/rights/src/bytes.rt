@@ -7,25 +7,14 @@ use crate::Set;
 // Bytes of a set.
 pub const SIZE: usize = 2;
 
-fn joined(low: u8, high: u8) -> Set
-    ensures { result ≡ low + byte_values * high }
-{
-    (low as Set) + 256 * (high as Set)
-}
-
 // Set number c, of which a byte past the end reads as 0.
 fn set_at(bytes: &[u8], c: usize) -> Set
     requires { set_bytes * c < 65536 }
     ensures { result ≡ set_in bytes.now c }
 {
-    let low = SIZE * c;
-    if bytes.len() <= low {
-        return 0;
-    }
-    if bytes.len() <= low + 1 {
-        return joined(bytes[low], 0);
-    }
-    joined(bytes[low], bytes[low + 1])
+    let low = bytes.get(SIZE * c).copied().unwrap_or(0);
+    let high = bytes.get(SIZE * c + 1).copied().unwrap_or(0);
+    Set::from_le_bytes([low, high])
 }
 
 // All sets, read from the bytes.
@@ -42,9 +31,8 @@ fn put_set(bytes: &mut [u8], c: usize, x: Set)
     requires { set_bytes * c + 1 < length bytes.old }
     ensures { bytes.new ≡ set (set bytes.old (set_bytes * c) (x % byte_values)) (set_bytes * c + 1) (x / byte_values) }
 {
-    let low = SIZE * c;
-    bytes[low] = (x % 256) as u8;
-    bytes[low + 1] = (x / 256) as u8;
+    let at = SIZE * c;
+    [bytes[at], bytes[at + 1]] = x.to_le_bytes();
 }
 
 // All sets, written into the bytes.

@@ -21,17 +21,12 @@ use Rattle.policy.specs.Refusals.{refusal}
 use Rattle.policy.specs.Contents.{policy_of, file_state, file_system}
 use Rattle.update.specs.Files.{code_of, rewritten, run_code, run_file}
 use Rattle.trace.specs.Traces.{calls, steps_in}
-use Rattle.trace.specs.Replays.{replay_from, file_replay}
-use Rattle.trace.specs.declared.Replay.{Replay}
-use Rattle.trace.specs.declared.Replay.TheVariants.{NoLeak, Leak, Refused as RefusedAt}
+use Rattle.trace.specs.Replays.{replay_from, file_replay, Replay, NoLeak, Leak, Refused as RefusedAt}
 use Rattle.safety.specs.Judgement.{caller_refusal, judge_refusal, judgement_by, file_judgement, filled, buffer_by, file_buffer}
-use Rattle.safety.specs.declared.Judgement.{Judgement}
-use Rattle.safety.specs.declared.Judgement.TheVariants.{Refused, Safe, Unsafe}
+use Rattle.safety.specs.Demand3.{Judgement, Refused, Safe, Unsafe}
 use Rattle.goals.specs.Goals.{cells_in}
 use Rattle.questions.specs.Refusals.{size_refusal}
-use Rattle.needs.specs.Needed.{list_refusal, need_refusal, need_of, file_need, need_buffer}
-use Rattle.needs.specs.declared.Need.{Need}
-use Rattle.needs.specs.declared.Need.TheVariants.{Refused as NeedRefused, Held, Never}
+use Rattle.needs.specs.Needed.{list_refusal, need_refusal, need_of, file_need, need_buffer, Need, Refused as NeedRefused, Held, Never}
 use Rattle.parts.specs.Parts.{left_out, trusted_refusal, part_refusal, part_judgement, part_buffer}
 use Rattle.sheets.specs.Sheets.{sheet_limit, sheet_refusal, entry_of, answers, part_length, parts_filled, sheet_after, buffer_after}
 use Rattle.sheets.specs.declared.Entry.{Entry}

@@ -1,10 +1,8 @@
 -- Rows that ask a question: the judge of a file, a need, a part, a sheet, each with a buffer of n bytes.
 use Rattle.std.specs.Prelude.{ℕ, ◌+◌, ◌*◌, List, ◌++◌, length}
 use Rattle.protection.specs.Command.{Call}
-use Rattle.safety.specs.declared.Judgement.{Judgement}
-use Rattle.safety.specs.declared.Judgement.TheVariants.{Refused}
-use Rattle.needs.specs.declared.Need.{Need}
-use Rattle.needs.specs.declared.Need.TheVariants.{Refused as NeedRefused}
+use Rattle.safety.specs.Demand3.{Judgement, Refused}
+use Rattle.needs.specs.Needed.{Need, Refused as NeedRefused}
 use Rattle.sheets.specs.declared.Entry.{Entry}
 use Rattle.rows.specs.Build.{trace, buffer, holding}
 use Rattle.rows.specs.Cases.{Case, judges, judges_part, needs, asks}

@@ -4,12 +4,10 @@ use Prim.Native.String.{String}
 use Rattle.protection.specs.Command.{Call}
 use Rattle.policy.specs.Refusals.{refusal}
 use Rattle.update.specs.Files.{run_code, run_file}
-use Rattle.trace.specs.Replays.{file_replay}
-use Rattle.trace.specs.declared.Replay.{Replay}
+use Rattle.trace.specs.Replays.{file_replay, Replay}
 use Rattle.safety.specs.Judgement.{file_judgement, file_buffer}
-use Rattle.safety.specs.declared.Judgement.{Judgement}
-use Rattle.needs.specs.Needed.{file_need, need_buffer}
-use Rattle.needs.specs.declared.Need.{Need}
+use Rattle.safety.specs.Demand3.{Judgement}
+use Rattle.needs.specs.Needed.{file_need, need_buffer, Need}
 use Rattle.parts.specs.Parts.{part_judgement, part_buffer}
 use Rattle.sheets.specs.Sheets.{sheet_refusal, sheet_after, buffer_after}
 use Rattle.sheets.specs.declared.Entry.{Entry}

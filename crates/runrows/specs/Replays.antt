@@ -2,8 +2,7 @@
 -- step and that step's number. It reports the first of leak and refusal."
 use Rattle.std.specs.Prelude.{ℕ, List, [], ◌∷◌, ◌++◌}
 use Rattle.protection.specs.Command.{Call}
-use Rattle.trace.specs.declared.Replay.{Replay}
-use Rattle.trace.specs.declared.Replay.TheVariants.{NoLeak, Leak, Refused}
+use Rattle.trace.specs.Replays.{Replay, NoLeak, Leak, Refused}
 use Rattle.rows.specs.Build.{an_object, a_subject, objects_below, cell_with, if_in, enter, delete, create_subject, rule_bytes, on_name, on_cell, file_of, call, trace}
 use Rattle.rows.specs.Cases.{Case, replays, Row, row}
 

@@ -1,7 +1,7 @@
 -- What follows from demand 3 alone, and from the judge's promise alone, whatever the answer and the buffer: at least a sentence for each field. Assumes nothing.
 use Prim.Native.Nat.{ℕ, zero, suc, ◌+◌, ◌*◌, ◌-◌, ◌≤◌, ◌<◌}
 use mathlib.Core.Path.{◌≡◌, refl, sym, ap, ◌∙◌, subst}
-use mathlib.Core.Bool.{Bool, true, false, not, ◌||◌}
+use mathlib.Core.Bool.{Bool, true, false, not}
 use mathlib.Core.List.{List, [], ◌∷◌, ◌++◌}
 use mathlib.Core.Logic.{◌↔◌, ◌⊎◌, inl, inr}
 use native.Mathlib.Omega.{arith}
@@ -25,10 +25,8 @@ use Rattle.protection.proofs.Consequences.{settled_still}
 use Rattle.policy.specs.Contents.{file_state, file_system}
 use Rattle.trace.specs.Traces.{step_call, calls}
 use Rattle.trace.specs.Replays.{file_replay, replay_code, replay_step}
-use Rattle.safety.specs.Demand3.{steps_written, is_safe, is_unsafe, Demand3}
+use Rattle.safety.specs.Demand3.{Judgement, Refused, Safe, Unsafe, steps_written, is_safe, is_unsafe, Demand3}
 use Rattle.safety.specs.Judgement.{judge_refusal, file_verdict, judgement_of, Judged}
-use Rattle.safety.specs.declared.Judgement.{Judgement}
-use Rattle.safety.specs.declared.Judgement.TheVariants.{Refused, Safe, Unsafe}
 use Rattle.questions.proofs.Counts.{few_steps}
 use Rattle.safety.proofs.Refusals.{judges, refuses, kept}
 

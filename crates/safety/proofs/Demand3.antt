@@ -2,6 +2,8 @@
 -- buffer are all that is to be shown of the code. Assumes nothing.
 use Prim.Native.Nat.{ℕ, suc, ◌*◌, ◌-◌, ◌≤◌, ◌<◌}
 use mathlib.Core.Path.{◌≡◌, refl, sym, ap, ap₂, ◌∙◌, subst}
+use Rattle.std.specs.Prelude.{Result, Ok, Err, IsErrAnd, IfOk}
+use Rattle.std.proofs.lemmas.Result.{IfOk-at_ok}
 use mathlib.Core.Bool.{Bool, true, false, not}
 use mathlib.Core.List.{List, [], append-nil}
 use native.Mathlib.Omega.{arith}
@@ -22,18 +24,18 @@ use Rattle.protection.proofs.Names.{every_name}
 use Rattle.protection.proofs.Saturation.{Taken, rounds_settled}
 use Rattle.protection.proofs.Safety.{unsafe_steps_bounded, unsafe_steps, safe_never, decides, within_bound}
 use Rattle.matrix.specs.Matrices.{state_of}
-use Rattle.layout.specs.Refusals.{or_else}
+use Rattle.refusals.specs.Numbers.{number_of, code}
+use Rattle.refusals.specs.declared.Refusal.{Refusal}
+use Rattle.refusals.proofs.Codes.{number_above, code_ok, code_on}
+use Rattle.layout.proofs.OrElse.{or_first, or_second}
 use Rattle.policy.specs.Refusals.{refusal}
-use Rattle.policy.specs.Contents.{system_of, policy_of, policy_read, file_state, file_system}
+use Rattle.policy.specs.Contents.{system_of, policy_of, file_state, file_system}
 use Rattle.policy.specs.declared.Policy.{Policy}
-use Rattle.policy.specs.declared.PolicyRead.{PolicyRead}
 use Rattle.policy.proofs.Accepted.{Accepted, accepted}
 use Rattle.policy.proofs.FileState.{policy_fits}
-use Rattle.policy.proofs.Laws.{read_refusal, read_policy}
 use Rattle.policy.proofs.ReadPolicy.{policy_fits_read}
 use Rattle.trace.specs.Traces.{calls}
-use Rattle.trace.specs.Replays.{file_replay}
-use Rattle.trace.specs.declared.Replay.TheVariants.{Leak}
+use Rattle.trace.specs.Replays.{Leak, file_replay}
 use Rattle.trace.proofs.Laws.{Replayed, replay_leak}
 use Rattle.goals.specs.Goals.{leak_goal}
 use Rattle.goals.proofs.Ending.{none-reserved}
@@ -41,17 +43,16 @@ use Rattle.visits.specs.Engine.{Asked}
 use Rattle.visits.proofs.Asked.{taken}
 use Rattle.questions.proofs.Refusals.{sized}
 use Rattle.questions.proofs.Starting.{policy_told}
-use Rattle.safety.specs.Demand3.{steps_written, is_safe, is_unsafe, Demand3}
+use Rattle.safety.specs.Demand3.{Judgement, Refused, Safe, Unsafe, judgement_told, steps_written, is_safe, is_unsafe, Demand3}
 use Rattle.safety.specs.Judgement.{caller_refusal, judge_refusal, file_verdict, judgement_of, file_judgement, bytes_of, filled, file_buffer, FileDemand3, Judged}
 use Rattle.policy.specs.Fits.{PolicyFits}
 use Rattle.masks.specs.Told.{Told, ToldBy}
 use Rattle.masks.specs.declared.Tables.{Tables}
 use Rattle.questions.specs.Rounded.{BasisOf}
 use Rattle.questions.specs.declared.Basis.{Basis}
-use Rattle.safety.specs.Conclusion.{Concluded, PreparedOf}
+use Rattle.safety.specs.Conclusion.{Concluded, ReadOf, ReadyOf, PreparedOf}
 use Rattle.safety.specs.declared.Prepared.{Prepared}
-use Rattle.safety.specs.declared.Judgement.{Judgement}
-use Rattle.safety.specs.declared.Judgement.TheVariants.{Refused, Safe, Unsafe}
+use Rattle.safety.specs.declared.Verdict.{Verdict as CodeVerdict}
 use Rattle.safety.proofs.Buffers.{bytes_length, front_bytes, calls_back, rest_behind}
 use Rattle.safety.proofs.Refusals.{Passed, passed, none_refused, judges, refuses, fills, question_asked}
 use Rattle.safety.proofs.Consequences.{some_step}
@@ -160,80 +161,81 @@ module _ (f : List ℕ) (r : ℕ) (b : List ℕ) where
   unfolding file_judgement file_buffer
   refused_with k ne e = let z : eqb k 0 ≡ false = ne_eqb k 0 ne in judged f r b (Refused k) b (rw (e, z)) (rw (e, z))
 
-  module _ (x : PolicyRead) (d : x ≡ policy_read f) where
-    pub refusal_first : (x.refused ≡ 0 → ⊥) → judge_refusal f r (length b) ≡ x.refused
-    unfolding judge_refusal
-    refusal_first ne =
-        let w : refusal f ≡ x.refused = sym (read_refusal f x d) in
-        let z : eqb x.refused 0 ≡ false = ne_eqb x.refused 0 ne in
-        rw (w, z)
+  above : (d : Refusal) → number_of d ≡ 0 → ⊥
+  above d e = let l = number_above d in omega arith
 
-    pub file_refused : (x.refused ≡ 0 → ⊥) → Judged f r b (Refused x.refused) b
-    file_refused ne = refused_with x.refused ne (refusal_first ne)
+  -- of a file that the reader refuses
+  pub file_refused : (d : Refusal) → number_of d ≡ refusal f → Judged f r b (Refused (number_of d)) b
+  unfolding judge_refusal
+  file_refused d e = refused_with (number_of d) (above d) (or_first (refusal f) (caller_refusal (file_system f) (file_state f) r (length b)) (λ q. above d (e ∙ q)) ∙ sym e)
 
-    module _ (z : x.refused ≡ 0) where
-      pub policy_is : x.policy ≡ policy_of f
-      policy_is = read_policy f x d z
+  -- and of one that it accepts
+  module _ (z : refusal f ≡ 0) (p : Policy) (p-is : p ≡ policy_of f) where
+    caller_is : judge_refusal f r (length b) ≡ caller_refusal (system_of p) (state_of p.matrix) r (length b)
+    unfolding judge_refusal policy_of
+    caller_is = or_second (refusal f) (caller_refusal (file_system f) (file_state f) r (length b)) z ∙ ap (λ (q : Policy). caller_refusal (system_of q) (state_of q.matrix) r (length b)) (sym p-is)
 
-      pub refusal_is : (k : ℕ) → k ≡ caller_refusal (system_of x.policy) (state_of x.policy.matrix) r (length b) → judge_refusal f r (length b) ≡ k
-      unfolding judge_refusal policy_of
-      refusal_is k e =
-          let a : refusal f ≡ 0 = sym (read_refusal f x d) ∙ z in
-          let y : or_else (refusal f) (caller_refusal (file_system f) (file_state f) r (length b)) ≡ caller_refusal (file_system f) (file_state f) r (length b) = rw a in
-          y ∙ ap (λ (p : Policy). caller_refusal (system_of p) (state_of p.matrix) r (length b)) (sym policy_is) ∙ sym e
+    pub caller_refused : (d : Refusal) → number_of d ≡ caller_refusal (system_of p) (state_of p.matrix) r (length b) → Judged f r b (Refused (number_of d)) b
+    caller_refused d e = refused_with (number_of d) (above d) (caller_is ∙ sym e)
 
-      pub caller_refused : (k : ℕ) → k ≡ caller_refusal (system_of x.policy) (state_of x.policy.matrix) r (length b) → (k ≡ 0 → ⊥) → Judged f r b (Refused k) b
-      caller_refused k e ne = refused_with k ne (refusal_is k e)
+    module _ (n : 0 ≡ caller_refusal (system_of p) (state_of p.matrix) r (length b)) where
+      pub file_asked : Asked p (leak_goal 0 r) (length b)
+      file_asked = question_asked p r (length b) (sym n) (policy_fits_read f p z p-is)
 
-      module _ (k : ℕ) (e : k ≡ caller_refusal (system_of x.policy) (state_of x.policy.matrix) r (length b)) (n : k ≡ 0) where
-        pub file_asked : Asked x.policy (leak_goal 0 r) (length b)
-        file_asked = question_asked x.policy r (length b) (sym e ∙ n) (policy_fits_read f x d z)
+      pub file_below : r < p.rights
+      file_below = (passed (system_of p) (state_of p.matrix) r (length b) (sym n)).below
 
-        pub file_below : r < x.policy.rights
-        file_below = (passed (system_of x.policy) (state_of x.policy.matrix) r (length b) (sym e ∙ n)).below
+      verdict_is : judge_beside (system_of p) (has 0) r (state_of p.matrix) ≡ file_verdict f r
+      unfolding policy_of
+      verdict_is = ap₂ (λ (R : ℕ → Bool) (q : Policy). judge_beside (system_of q) R r (state_of q.matrix)) (none-reserved 0 refl) p-is
 
-        verdict_is : judge_beside (system_of x.policy) (has 0) r (state_of x.policy.matrix) ≡ file_verdict f r
-        unfolding policy_of
-        verdict_is = ap₂ (λ (R : ℕ → Bool) (p : Policy). judge_beside (system_of p) R r (state_of p.matrix)) (none-reserved 0 refl) policy_is
-
-        pub file_judged : (answer : Judgement) (b' : List ℕ) → Concluded x.policy 0 r b answer b' → Judged f r b answer b'
-        file_judged answer b' C =
-            let q : judge_refusal f r (length b) ≡ 0 = refusal_is k e ∙ n in
-            judged f r b answer b' (C.answer_is ∙ ap judgement_of verdict_is ∙ sym (judges f r (length b) q)) (C.buffer_is ∙ ap (λ (w : Verdict). filled w.steps b) verdict_is ∙ sym (fills f r b q))
+      pub file_judged : (answer : Judgement) (b' : List ℕ) → Concluded p 0 r b answer b' → Judged f r b answer b'
+      file_judged answer b' C =
+          let q : judge_refusal f r (length b) ≡ 0 = caller_is ∙ sym n in
+          judged f r b answer b' (C.answer_is ∙ ap judgement_of verdict_is ∙ sym (judges f r (length b) q)) (C.buffer_is ∙ ap (λ (w : Verdict). filled w.steps b) verdict_is ∙ sym (fills f r b q))
 
 -- ---- a file that is prepared
-pub prepared_is : (f : List ℕ) (x : PolicyRead) (B : Basis) (t : Tables) → x ≡ policy_read f → (x.refused ≡ 0 → BasisOf x.policy B)
-    → ToldBy x.policy.carried x.policy.matrix.cells t → PreparedOf f (record { read = x; basis = B; tables = t })
-prepared_is f x B t d basis h = record { read_is = d; basis_is = basis; told = λ z. policy_told x.policy x.policy.matrix.cells t (policy_fits_read f x d z) h }
+-- what is known of a policy that was read
+module _ (f : List ℕ) (x : Result Policy Refusal) (R : ReadOf f x) (p : Policy) (e : x ≡ Ok p) where
+  read_accepted : refusal f ≡ 0
+  read_accepted = sym R.refused ∙ code_ok x p e
 
--- of a refused file nothing is known
-pub basis_none : (x : PolicyRead) (B : Basis) → (x.refused ≡ 0 → ⊥) → x.refused ≡ 0 → BasisOf x.policy B
-basis_none x B n z = absurd (n z)
+  read_is : p ≡ policy_of f
+  read_is = IfOk-at_ok (λ (q : Policy). q ≡ policy_of f) e R.read
 
-pub basis_fits : (x : PolicyRead) → ((f : List ℕ) × (x ≡ policy_read f)) → x.refused ≡ 0 → PolicyFits x.policy
-basis_fits x d z = policy_fits_read d.0 x d.1 z
+  pub read_fits : PolicyFits p
+  read_fits = policy_fits_read f p read_accepted read_is
 
-module _ (f : List ℕ) (r : ℕ) (b : List ℕ) (y : Prepared) (P : PreparedOf f y) where
-  pub prepared_refused : (y.read.refused ≡ 0 → ⊥) → Judged f r b (Refused y.read.refused) b
-  prepared_refused = file_refused f r b y.read P.read_is
+  pub prepared_ready : (B : Basis) (t : Tables) → BasisOf p B → ToldBy p.carried p.matrix.cells t → PreparedOf f (Ok (record { policy = p; basis = B; tables = t }))
+  prepared_ready B t basis h = record {
+    refused = sym read_accepted;
+    ready = record { accepted = read_accepted; policy_is = read_is; basis_is = basis; told = policy_told p p.matrix.cells t read_fits h };
+  }
 
-  module _ (z : y.read.refused ≡ 0) (k : ℕ) (e : k ≡ caller_refusal (system_of y.read.policy) (state_of y.read.policy.matrix) r (length b)) where
-    pub prepared_caller : (k ≡ 0 → ⊥) → Judged f r b (Refused k) b
-    prepared_caller = caller_refused f r b y.read P.read_is z k e
+-- a refusal is handed on
+pub prepared_refused : (f : List ℕ) (x : Result Policy Refusal) (d : Refusal) (y : Result Prepared Refusal) → x ≡ Err d → IsErrAnd y (λ e. e ≡ d) → ReadOf f x → PreparedOf f y
+prepared_refused f x d y e h R = record { refused = code_on x y d e h ∙ R.refused; ready = none y h }
+  where
+    none : (y : Result Prepared Refusal) → IsErrAnd y (λ e. e ≡ d) → IfOk y (λ z. ReadyOf f z)
+    none (Ok z) h = elim h [ ]
+    none (Err z) h = tt
 
-    module _ (n : k ≡ 0) where
-      pub prepared_asked : Asked y.read.policy (leak_goal 0 r) (length b)
-      prepared_asked = file_asked f r b y.read P.read_is z k e n
+pub told_on : (v : Result CodeVerdict Refusal) (d : Refusal) → IsErrAnd v (λ e. e ≡ d) → judgement_told v ≡ Refused (number_of d)
+told_on (Ok v) d h = elim h [ ]
+told_on (Err e) d h = ap (λ (x : Refusal). Refused (number_of x)) h
 
-      pub prepared_below : r < y.read.policy.rights
-      prepared_below = file_below f r b y.read P.read_is z k e n
+-- the caller of a judgement on it is refused, or the question is asked
+module _ (f : List ℕ) (r : ℕ) (b : List ℕ) (y : Prepared) (R : ReadyOf f y) where
+  pub ready_refused : (d : Refusal) → number_of d ≡ caller_refusal (system_of y.policy) (state_of y.policy.matrix) r (length b) → (v : Result CodeVerdict Refusal) → IsErrAnd v (λ e. e ≡ d) → Judged f r b (judgement_told v) b
+  ready_refused d e v h = subst (λ (w : Judgement). Judged f r b w b) (sym (told_on v d h)) (caller_refused f r b R.accepted y.policy R.policy_is d e)
 
-      pub prepared_judged : (answer : Judgement) (b' : List ℕ) → Concluded y.read.policy 0 r b answer b' → Judged f r b answer b'
-      prepared_judged = file_judged f r b y.read P.read_is z k e n
+  module _ (n : 0 ≡ caller_refusal (system_of y.policy) (state_of y.policy.matrix) r (length b)) where
+    pub ready_asked : Asked y.policy (leak_goal 0 r) (length b) × (r < y.policy.rights) × BasisOf y.policy y.basis × Told (system_of y.policy) y.policy.matrix.cells y.tables
+    ready_asked = (file_asked f r b R.accepted y.policy R.policy_is n, file_below f r b R.accepted y.policy R.policy_is n, R.basis_is, R.told)
 
--- for some file, as a function asks
-pub prepared_basis : (y : Prepared) → ((f : List ℕ) × PreparedOf f y) → y.read.refused ≡ 0 → BasisOf y.read.policy y.basis
-prepared_basis y P z = P.1.basis_is z
+    pub ready_judged : (answer : Judgement) (b' : List ℕ) → Concluded y.policy 0 r b answer b' → Judged f r b answer b'
+    ready_judged = file_judged f r b R.accepted y.policy R.policy_is n
 
-pub prepared_told : (y : Prepared) → ((f : List ℕ) × PreparedOf f y) → y.read.refused ≡ 0 → Told (system_of y.read.policy) y.read.policy.matrix.cells y.tables
-prepared_told y P z = P.1.told z
+-- a file that could not be prepared
+pub prepared_not : (f : List ℕ) (x : Result Prepared Refusal) (d : Refusal) → x ≡ Err d → PreparedOf f x → (r : ℕ) (b : List ℕ) → Judged f r b (Refused (number_of d)) b
+prepared_not f x d e P r b = file_refused f r b d (sym (ap code e) ∙ P.refused)

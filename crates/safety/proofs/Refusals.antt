@@ -1,5 +1,5 @@
 -- The refusals of whoever calls for a verdict: what the code tests, and what holds where none is given. Assumes nothing.
-use Prim.Native.Nat.{ℕ, suc, ◌*◌, ◌≤◌, ◌<◌}
+use Prim.Native.Nat.{ℕ, suc, ◌≤◌, ◌<◌}
 use mathlib.Core.Path.{◌≡◌, refl, sym, ◌∙◌}
 use mathlib.Core.Bool.{Bool, true, false}
 use mathlib.Core.List.{List}
@@ -22,10 +22,10 @@ use Rattle.visits.specs.Engine.{Asked}
 use Rattle.questions.specs.Refusals.{size_refusal}
 use Rattle.questions.specs.Rounded.{BasisOf}
 use Rattle.questions.specs.declared.Basis.{Basis}
-use Rattle.questions.proofs.Refusals.{Sized, sized, open_asked}
+use Rattle.questions.proofs.Refusals.{open_asked}
 use Rattle.protection.specs.Judge.{Verdict}
 use Rattle.safety.specs.Judgement.{caller_refusal, judge_refusal, file_verdict, judgement_of, judgement_by, file_judgement, filled, buffer_by, file_buffer}
-use Rattle.safety.specs.declared.Judgement.TheVariants.{Refused}
+use Rattle.safety.specs.Demand3.{Refused}
 
 -- ---- what the code tests, one after the other
 module _ (p : Policy) (r n : ℕ) where
@@ -36,13 +36,10 @@ module _ (p : Policy) (r n : ℕ) where
   unfolding caller_refusal
   caller_21 l = rw (le-leb p.rights r l)
 
-  pub caller_size : r < p.rights → (k : ℕ) → k ≡ size_refusal (system_of p) (state_of p.matrix) n → k ≡ answer
-  unfolding caller_refusal
-  caller_size l k e = e ∙ rw (lt-leb p.rights r l)
-
   -- by what is known of the policy alone
-  pub caller_basis : (x : Basis) → BasisOf p x → r < p.rights → (k : ℕ) → ((q : Policy) → BasisOf q x → k ≡ size_refusal (system_of q) (state_of q.matrix) n) → k ≡ answer
-  caller_basis x B l k h = caller_size l k (h p B)
+  pub caller_size : (x : Basis) → BasisOf p x → r < p.rights → (k : ℕ) → ((q : Policy) → BasisOf q x → k ≡ size_refusal (system_of q) (state_of q.matrix) n) → k ≡ answer
+  unfolding caller_refusal
+  caller_size x B l k h = h p B ∙ rw (lt-leb p.rights r l)
 
 -- ---- a question that is not refused
 not_within : (a b : ℕ) → leb a b ≡ false → b < a
@@ -107,7 +104,7 @@ module _ (f : List ℕ) (r : ℕ) (b : List ℕ) where
 
 -- ---- the engine's question is asked where nothing is refused
 pub leak_fits : (z r : ℕ) → GoalFits (leak_goal z r)
-leak_fits z r = record { few = omega arith; all = λ j l. absurd (omega (arith, l)) }
+leak_fits z r = record { needed = record { few = omega arith; all = λ j l. absurd (omega (arith, l)) } }
 
 pub question_asked : (p : Policy) (r n : ℕ) → caller_refusal (system_of p) (state_of p.matrix) r n ≡ 0 → PolicyFits p → Asked p (leak_goal 0 r) n
 question_asked p r n e F = open_asked p (leak_goal 0 r) n refl (passed (system_of p) (state_of p.matrix) r n e).size F (leak_fits 0 r)

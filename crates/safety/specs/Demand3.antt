@@ -1,16 +1,32 @@
 -- Demand 3: the judge says unsafe exactly where some run leaks the right, and safe exactly where none does; under unsafe its steps are such a run.
 -- This speaks of runs of the machine, and not of how the judge works.
-use Rattle.std.specs.Prelude.{ℕ, ◌*◌, ◌≤◌, ◌≡◌, Bool, true, false, List, ◌↔◌, T, length, drop}
+use Rattle.std.specs.Prelude.{ℕ, ◌*◌, ◌≤◌, ◌≡◌, Bool, true, false, List, ◌↔◌, T, length, drop, Result, Ok, Err}
 use Rattle.protection.specs.State.{State}
 use Rattle.protection.specs.Size.{step_bound}
 use Rattle.protection.specs.Command.{System, Call}
 use Rattle.protection.specs.Execution.{unbounded}
 use Rattle.protection.specs.Leak.{leaks, LeaksLast}
 use Rattle.trace.specs.Traces.{calls}
-use Rattle.safety.specs.declared.Judgement.{Judgement}
-use Rattle.safety.specs.declared.Judgement.TheVariants.{Refused, Safe, Unsafe}
+use Rattle.refusals.specs.Numbers.{number_of}
+use Rattle.refusals.specs.declared.Refusal.{Refusal}
+use Rattle.safety.specs.declared.Verdict.{Verdict as CodeVerdict}
+use Rattle.safety.specs.declared.Verdict.TheVariants as code
 
--- the enum `Judgement`: "The answer is the verdict and the number of steps written."; a refused call writes none
+-- "The answer is the verdict and the number of steps written."; or a refusal, and a refused call writes none
+pub data Judgement : Type 0 where
+  Refused : ℕ → Judgement
+  Safe : ℕ → Judgement
+  Unsafe : ℕ → Judgement
+
+-- as the code answers it
+abbrev pub verdict_told : CodeVerdict → Judgement
+verdict_told (code.Safe n) = Safe n
+verdict_told (code.Unsafe n) = Unsafe n
+
+abbrev pub judgement_told : Result CodeVerdict Refusal → Judgement
+judgement_told (Ok v) = verdict_told v
+judgement_told (Err r) = Refused (number_of r)
+
 abbrev pub is_safe : Judgement → Bool
 is_safe (Refused n) = false
 is_safe (Safe n) = true

@@ -9,11 +9,8 @@ use Rattle.layout.specs.Refusals.{or_else}
 use Rattle.policy.specs.Refusals.{refusal}
 use Rattle.policy.specs.Contents.{file_state, file_system}
 use Rattle.questions.specs.Refusals.{size_refusal}
-use Rattle.trace.specs.Replays.{file_replay}
-use Rattle.trace.specs.declared.Replay.TheVariants.{Leak}
-use Rattle.safety.specs.Demand3.{Demand3}
-use Rattle.safety.specs.declared.Judgement.{Judgement}
-use Rattle.safety.specs.declared.Judgement.TheVariants.{Refused, Safe, Unsafe}
+use Rattle.trace.specs.Replays.{Leak, file_replay}
+use Rattle.safety.specs.Demand3.{Judgement, Refused, Safe, Unsafe, Demand3}
 
 -- ---- "Whoever calls for a verdict"
 -- "21 right not below g. Judge only, in this order: 22 .. 23 .. 24 .." n is the buffer's length; 0 is no refusal

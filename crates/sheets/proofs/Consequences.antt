@@ -14,10 +14,8 @@ use Rattle.protection.specs.Command.{Call}
 use Rattle.protection.specs.Execution.{unbounded}
 use Rattle.protection.specs.Leak.{leaks}
 use Rattle.policy.specs.Contents.{file_state, file_system}
-use Rattle.safety.specs.Demand3.{is_safe, Demand3}
+use Rattle.safety.specs.Demand3.{Judgement, Safe, Unsafe, is_safe, Demand3}
 use Rattle.safety.specs.Judgement.{judge_refusal, judgement_code, file_verdict, file_judgement}
-use Rattle.safety.specs.declared.Judgement.{Judgement}
-use Rattle.safety.specs.declared.Judgement.TheVariants.{Safe, Unsafe}
 use Rattle.safety.proofs.Refusals.{judges, refuses}
 use Rattle.sheets.specs.declared.Entry.{Entry}
 use Rattle.sheets.specs.Sheets.{sheet_limit, sheet_refusal, answered, answers, part_length, parts_filled, sheet_after, buffer_after, right_at, part_at, Sheeted}

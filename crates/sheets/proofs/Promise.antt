@@ -1,6 +1,7 @@
 -- What is promised of a sheet follows from its entries and the buffer after the call. Assumes nothing.
 use Prim.Native.Nat.{ℕ, zero, suc, ◌+◌, ◌*◌, ◌≤◌, ◌<◌}
 use mathlib.Core.Path.{◌≡◌, refl, sym, ap, ◌∙◌, subst}
+use Rattle.std.specs.Prelude.{Ok, Err}
 use mathlib.Core.Bool.{Bool, true, false}
 use mathlib.Core.List.{List, [], ◌∷◌, ◌++◌}
 use native.Mathlib.Decide.{ℕ_discrete}
@@ -11,9 +12,9 @@ use lib.Dec.{ltb}
 use lib.ListN.{length, take, drop, length-append, length-drop}
 use lib.Seq.{length-take-le, take_at, drop_at, drop-drop}
 use Rattle.cases.specs.Cases.{pick}
-use Rattle.safety.specs.Demand3.{steps_written}
+use Rattle.refusals.specs.declared.Refusal.TheVariants.{LongSheet}
+use Rattle.safety.specs.Demand3.{Safe, Unsafe, steps_written}
 use Rattle.safety.specs.Judgement.{judge_refusal, file_judgement, file_verdict, file_buffer, bytes_of}
-use Rattle.safety.specs.declared.Judgement.TheVariants.{Safe, Unsafe}
 use Rattle.safety.proofs.Buffers.{bytes_length}
 use Rattle.safety.proofs.Refusals.{judges, fills, kept}
 use Rattle.safety.proofs.Demand3.{judged, judge_demand3}
@@ -124,8 +125,8 @@ sheet_length f s b = go (ltb sheet_limit (length s))
 
 -- ---- a sheet by value
 module _ (f : List ℕ) (e : List Entry) (n : ℕ) (b : List ℕ) where
-  pub first_refused : sheet_limit < n → FirstSheeted f e n b (record { refused = 43; entries = e }) b
-  first_refused h = let z = lt-ltb sheet_limit n h in record { refused_is = rw z; entries_are = rw z; buffer_is = rw z }
+  pub first_refused : sheet_limit < n → FirstSheeted f e n b (Err LongSheet) b
+  first_refused h = let z = lt-ltb sheet_limit n h in record { refused_is = rw z; entries_are = tt; buffer_is = rw z }
 
-  pub first_answered : n ≤ sheet_limit → (e' : List Entry) (b' : List ℕ) → (e' ≡ sheet_after f (take n e) b ++ drop n e) × (b' ≡ buffer_after f (take n e) b) → FirstSheeted f e n b (record { refused = 0; entries = e' }) b'
-  first_answered l e' b' are = let z = le-ltb sheet_limit n l in record { refused_is = rw z; entries_are = rw z are.0; buffer_is = rw z are.1 }
+  pub first_answered : n ≤ sheet_limit → (e' : List Entry) (b' : List ℕ) → (e' ≡ sheet_after f (take n e) b ++ drop n e) × (b' ≡ buffer_after f (take n e) b) → FirstSheeted f e n b (Ok e') b'
+  first_answered l e' b' are = let z = le-ltb sheet_limit n l in record { refused_is = rw z; entries_are = are.0; buffer_is = rw z are.1 }

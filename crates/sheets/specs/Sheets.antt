@@ -1,11 +1,11 @@
 -- A sheet of questions on a file (document 02, C-17): its refusal, its entries and the buffer after the call, and what is promised of each entry.
-use Rattle.std.specs.Prelude.{ℕ, ◌*◌, ◌/◌, ◌≤◌, ◌<◌, ◌≡◌, List, [], ◌∷◌, ◌++◌, ltb, length, get_or, take, drop}
+use Rattle.std.specs.Prelude.{ℕ, ◌*◌, ◌/◌, ◌≤◌, ◌<◌, ◌≡◌, List, [], ◌∷◌, ◌++◌, ltb, length, get_or, take, drop, Result, IfOk}
 use Rattle.cases.specs.Cases.{pick}
-use Rattle.safety.specs.Demand3.{steps_written}
+use Rattle.safety.specs.Demand3.{Judgement, steps_written}
 use Rattle.safety.specs.Judgement.{file_judgement, judgement_code, file_buffer, Judged}
-use Rattle.safety.specs.declared.Judgement.{Judgement}
 use Rattle.sheets.specs.declared.Entry.{Entry}
-use Rattle.sheets.specs.declared.Sheet.{Sheet}
+use Rattle.refusals.specs.Numbers.{code}
+use Rattle.refusals.specs.declared.Refusal.{Refusal}
 
 -- ---- refusal
 -- "It refuses with 43 .. a sheet of more than 8"
@@ -67,7 +67,7 @@ pub record Sheeted (f : List ℕ) (s : List Entry) (b : List ℕ) (r : ℕ) (s' 
   pub left_over : drop (length s * part_length s b) b' ≡ drop (length s * part_length s b) b
 
 -- ---- the same by value: a sheet of n entries, of which e has the first eight
-pub record FirstSheeted (f : List ℕ) (e : List Entry) (n : ℕ) (b : List ℕ) (x : Sheet) (b' : List ℕ) : Type 0 where
-  pub refused_is : x.refused ≡ pick (ltb sheet_limit n) 43 0
-  pub entries_are : x.entries ≡ pick (ltb sheet_limit n) e (sheet_after f (take n e) b ++ drop n e)
+pub record FirstSheeted (f : List ℕ) (e : List Entry) (n : ℕ) (b : List ℕ) (x : Result (List Entry) Refusal) (b' : List ℕ) : Type 0 where
+  pub refused_is : code x ≡ pick (ltb sheet_limit n) 43 0
+  pub entries_are : IfOk x (λ e'. e' ≡ sheet_after f (take n e) b ++ drop n e)
   pub buffer_is : b' ≡ pick (ltb sheet_limit n) b (buffer_after f (take n e) b)

@@ -2,13 +2,16 @@
 #![tactic(auto)]
 
 ghost use Rattle.std.specs.Prelude.{◌≡◌, List, ◌++◌, ℕ, ◌+◌, ◌*◌, ◌/◌, ◌^◌, ◌≤◌, ◌<◌, length, take, drop};
-ghost use Rattle.safety.specs.Demand3.{steps_written};
+ghost use Rattle.refusals.specs.Numbers.{code};
+ghost use Rattle.safety.specs.Demand3.{steps_written, judgement_told};
 ghost use Rattle.safety.specs.Conclusion.{PreparedOf};
 ghost use Rattle.sheets.specs.Sheets.{entry_of, answered, part_filled, sheet_after, buffer_after, Sheeted, FirstSheeted};
 
-use safety::{Judgement, Prepared};
+use refusals::Refusal;
+use safety::{Prepared, Verdict};
 
-// An entry of a sheet: a right, and the place for its answer: the verdict, 0 safe, 255 unsafe, else the refusal, and the number of steps written.
+// An entry of a sheet: a right, and the place for its answer: the verdict, 0 safe, 255 unsafe, else the refusal, and the number of steps written. A number and no
+// enum, since document 02 gives the entry this form and C reads it.
 #[derive(Clone, Copy)]
 pub struct Entry {
     pub right: u8,
@@ -26,22 +29,22 @@ const SAFE: u8 = 0;
 const UNSAFE: u8 = 255;
 
 // An entry with its answer.
-fn entry_of(right: u8, judgement: Judgement) -> Entry
-    requires { steps_written judgement < 2 ^ 16 }
-    ensures { result ≡ entry_of right judgement }
+fn entry_of(right: u8, judgement: Result<Verdict, Refusal>) -> Entry
+    requires { steps_written (judgement_told judgement) < 2 ^ 16 }
+    ensures { result ≡ entry_of right (judgement_told judgement) }
 {
     match judgement {
-        Judgement::Refused(n) => Entry {
+        Err(by) => Entry {
             right,
-            verdict: n,
+            verdict: by.number(),
             count: 0,
         },
-        Judgement::Safe(n) => Entry {
+        Ok(Verdict::Safe(n)) => Entry {
             right,
             verdict: SAFE,
             count: n as u16,
         },
-        Judgement::Unsafe(n) => Entry {
+        Ok(Verdict::Unsafe(n)) => Entry {
             right,
             verdict: UNSAFE,
             count: n as u16,
@@ -53,16 +56,19 @@ fn entry_of(right: u8, judgement: Judgement) -> Entry
 fn part_length(bytes: usize, n: usize) -> usize
     ensures { result ≡ bytes / n }
 {
-    if n == 0 {
-        return 0;
-    }
-    bytes / n
+    bytes.checked_div(n).unwrap_or(0)
 }
 
 // Entry i, judged on part i of the buffer, each part of so many bytes.
-fn ask(file: Prepared, right: u8, i: usize, part: usize, buffer: &mut [u8]) -> Entry
-    requires { ((f : List ℕ) × PreparedOf f file) × (i * part + part ≤ length buffer.old) }
-    ensures { (f : List ℕ) → PreparedOf f file → (result ≡ answered f part right) × (buffer.new ≡ part_filled f right (i * part) part buffer.old) }
+fn ask(
+    file: &Result<Prepared, Refusal>,
+    right: u8,
+    i: usize,
+    part: usize,
+    buffer: &mut [u8],
+) -> Entry
+    requires { ((f : List ℕ) × PreparedOf f file.now) × (i * part + part ≤ length buffer.old) }
+    ensures { (f : List ℕ) → PreparedOf f file.now → (result ≡ answered f part right) × (buffer.new ≡ part_filled f right (i * part) part buffer.old) }
 {
     let at = i * part;
     let end = at + part;
@@ -71,23 +77,19 @@ fn ask(file: Prepared, right: u8, i: usize, part: usize, buffer: &mut [u8]) -> E
 }
 
 // Answers every entry of the sheet, each as a call of its own on its part of the buffer; or refuses a sheet that is too long, with 43.
-pub fn sheet_file(file: &[u8], sheet: &mut [Entry], buffer: &mut [u8]) -> u8
-    ensures { Sheeted file.now sheet.old buffer.old result sheet.new buffer.new }
+pub fn sheet_file(file: &[u8], sheet: &mut [Entry], buffer: &mut [u8]) -> Result<(), Refusal>
+    ensures { Sheeted file.now sheet.old buffer.old (code result) sheet.new buffer.new }
 {
     let n = sheet.len();
     if Entry::SHEET < n {
-        return 43;
+        return Err(Refusal::LongSheet);
     }
     let prepared = safety::prepare_file(file);
     let part = part_length(buffer.len(), n);
-    let mut i = 0;
-    while i < n {
-        let right = sheet[i].right;
-        let entry = ask(prepared, right, i, part, buffer);
-        sheet[i] = entry;
-        i = i + 1;
+    for i in 0..n {
+        sheet[i] = ask(&prepared, sheet[i].right, i, part, buffer);
     }
-    0
+    Ok(())
 }
 
 // The first n of eight entries, answered as a sheet; the others as they were.
@@ -100,30 +102,21 @@ fn answer_first(
     requires { n ≤ 8 }
     ensures { (result ≡ sheet_after file.now (take n entries) buffer.old ++ drop n entries) × (buffer.new ≡ buffer_after file.now (take n entries) buffer.old) }
 {
-    sheet_file(file, &mut entries[..n], buffer);
+    let _ = sheet_file(file, &mut entries[..n], buffer);
     entries
 }
 
-// A sheet in eight places: the refusal or 0, and the entries after the call.
-#[derive(Drop)]
-pub struct Sheet {
-    pub refused: u8,
-    pub entries: [Entry; Entry::SHEET],
-}
-
 // The same by value, for a caller without a slice of entries: of a sheet of n entries the first eight.
-pub fn sheet_of(file: &[u8], entries: [Entry; Entry::SHEET], n: usize, buffer: &mut [u8]) -> Sheet
+pub fn sheet_of(
+    file: &[u8],
+    entries: [Entry; Entry::SHEET],
+    n: usize,
+    buffer: &mut [u8],
+) -> Result<[Entry; Entry::SHEET], Refusal>
     ensures { FirstSheeted file.now entries n buffer.old result buffer.new }
 {
     if Entry::SHEET < n {
-        return Sheet {
-            refused: 43,
-            entries,
-        };
+        return Err(Refusal::LongSheet);
     }
-    let answered = answer_first(file, entries, n, buffer);
-    Sheet {
-        refused: 0,
-        entries: answered,
-    }
+    Ok(answer_first(file, entries, n, buffer))
 }

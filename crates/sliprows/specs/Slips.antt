@@ -1,6 +1,6 @@
 -- Document 01's own cases ("Proof slips", P1 to P10).
 use Rattle.std.specs.Prelude.{ℕ, List, [], ◌∷◌}
-use Rattle.safety.specs.declared.Judgement.TheVariants.{Refused, Safe, Unsafe}
+use Rattle.safety.specs.Demand3.{Refused, Safe, Unsafe}
 use Rattle.rows.specs.Build.{an_object, a_subject, objects_below, cell_with, if_in, enter, delete, create_subject, destroy_subject, rule_bytes, file_of, call, buffer, holding, text}
 use Rattle.rows.specs.Cases.{judges, prints, runs, Row, row}
 

@@ -20,8 +20,7 @@ use Rattle.layout.specs.File.{rights_of}
 use Rattle.policy.specs.Refusals.{refusal}
 use Rattle.policy.specs.Contents.{file_state, file_system}
 use Rattle.trace.specs.Traces.{step_call, calls, steps_in}
-use Rattle.trace.specs.Replays.{reported, replay_from, file_replay}
-use Rattle.trace.specs.declared.Replay.TheVariants.{NoLeak, Leak, Refused}
+use Rattle.trace.specs.Replays.{NoLeak, Leak, Refused, reported, replay_from, file_replay}
 
 -- ---- the answers are told apart
 leak_is : (i j : ℕ) → Leak i ≡ Leak j → i ≡ j

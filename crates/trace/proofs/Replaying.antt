@@ -1,4 +1,5 @@
 -- The loop of a replay: what is left of the definition, from where the loop stands, is the whole. Assumes nothing.
+use Rattle.std.specs.Prelude.{Option, Result, Ok, Err, IsErrAnd}
 use Prim.Native.Nat.{ℕ, suc, ◌+◌, ◌-◌, ◌%◌, ◌≤◌, ◌<◌}
 use mathlib.Core.Path.{◌≡◌, refl, sym, ap, ◌∙◌}
 use mathlib.Core.Bool.{Bool, true, false}
@@ -16,19 +17,18 @@ use Rattle.matrix.specs.Matrices.{state_of}
 use Rattle.matrix.specs.declared.Matrix.{Matrix}
 use Rattle.layout.specs.File.{rights_of}
 use Rattle.policy.specs.Refusals.{refusal}
-use Rattle.policy.specs.Contents.{system_of, policy_of, policy_read}
+use Rattle.policy.specs.Contents.{system_of, policy_of}
 use Rattle.policy.specs.declared.Policy.{Policy}
-use Rattle.policy.specs.declared.PolicyRead.{PolicyRead}
-use Rattle.policy.proofs.Laws.{read_refusal, read_policy}
-use Rattle.execution.specs.Runs.{answer_of, outcome_of, ExecutedAs}
-use Rattle.execution.specs.declared.Answer.{Answer}
-use Rattle.execution.specs.declared.Answer.TheVariants.{Done, Leaked}
-use Rattle.execution.specs.declared.Executed.{Executed}
+use Rattle.execution.specs.Runs.{Answer, Refused as Refuses, Done, Leaked, Executed, answer_told, answer_of, outcome_of, ExecutedAs}
+use Rattle.execution.specs.declared.Done.{Done as CodeDone}
+use Rattle.execution.specs.declared.Done.TheVariants.{NoLeak as CodeNoLeak, Leak as CodeLeak}
 use Rattle.trace.specs.Traces.{step_at, step_call, calls, steps_in}
-use Rattle.trace.specs.Replays.{reported, replay_from, file_replay}
+use Rattle.refusals.specs.Numbers.{number_of}
+use Rattle.refusals.specs.declared.Refusal.{Refusal}
+use Rattle.refusals.proofs.Codes.{number_above}
+use Rattle.trace.specs.declared.RefusedStep.{RefusedStep}
+use Rattle.trace.specs.Replays.{Replay, NoLeak, Leak, Refused, replay_told, reported, replay_from, file_replay}
 use Rattle.trace.specs.Ends.{end_of}
-use Rattle.trace.specs.declared.Replay.{Replay}
-use Rattle.trace.specs.declared.Replay.TheVariants.{NoLeak, Leak, Refused}
 use Rattle.trace.specs.declared.Step.{Step}
 
 -- an answer other than `Done` ends the replay
@@ -47,6 +47,17 @@ goes r i (done m new) later e = go (new r) e
     go : (b : Bool) → pick b Leaked Done ≡ Done → pick b (Leak i) later ≡ later
     go true e = absurd (let z : ◌≡◌ {A = ℕ} 0 1 = cc in omega arith)
     go false e = refl
+
+-- which answers of the code are `Done`
+module _ (r : Result CodeDone Refusal) where
+  pub told_leak : (d : CodeDone) → r ≡ Ok d → d ≡ CodeLeak → answer_told r ≡ Done → ⊥
+  told_leak d e q z = let w : Leaked ≡ Done = rw (e, q) at z in let k : ◌≡◌ {A = ℕ} 0 1 = cc in omega arith
+
+  pub told_refused : (x : Refusal) → r ≡ Err x → answer_told r ≡ Done → ⊥
+  told_refused x e z = let w : Refuses (number_of x) ≡ Done = rw e at z in let k : ◌≡◌ {A = ℕ} 0 1 = cc in omega arith
+
+  pub told_quiet : (d : CodeDone) → r ≡ Ok d → d ≡ CodeNoLeak → answer_told r ≡ Done
+  told_quiet d e q = rw (e, q)
 
 module _ (p : Policy) (t : List ℕ) (right n i : ℕ) (m : Matrix) (s : Step) (ds : s ≡ step_at t i) (e : Executed) (h : ExecutedAs right (outcome_of p m s.command s.actuals) m e)
     (l : i < n) (whole : Replay) (inv : replay_from (system_of p) right (tabulate (step_call t) (n - i) i) i (state_of m) ≡ whole) where
@@ -88,26 +99,27 @@ unfolding replay_from
 replay_end p t right n i m whole h e = let z : n - i ≡ 0 = omega arith in rw z at e
 
 -- ---- the file's replay
-pub replay_bad_file : (f t : List ℕ) (r : ℕ) (x : PolicyRead) → x ≡ policy_read f → (x.refused ≡ 0 → ⊥) → Refused x.refused 0 ≡ file_replay f t r
+pub replay_bad_file : (f t : List ℕ) (r : ℕ) (e : Refusal) (y : Result (Option ℕ) RefusedStep) → number_of e ≡ refusal f → IsErrAnd y (λ x. x ≡ record { by = e; step = 0 }) → replay_told y ≡ file_replay f t r
 unfolding file_replay
-replay_bad_file f t r x d ne =
-    let w : refusal f ≡ x.refused = sym (read_refusal f x d) in
-    let z : eqb x.refused 0 ≡ false = ne_eqb x.refused 0 ne in
-    rw (w, z)
+replay_bad_file f t r e (Ok x) d h = elim h [ ]
+replay_bad_file f t r e (Err x) d h =
+    let l : 0 < number_of e = number_above e in
+    let w : eqb (refusal f) 0 ≡ false = ne_eqb (refusal f) 0 (λ z. omega arith) in
+    rw (h, w) (ap (λ (k : ℕ). Refused k 0) d)
 
-module _ (f t : List ℕ) (r : ℕ) (x : PolicyRead) (d : x ≡ policy_read f) (z : x.refused ≡ 0) where
+module _ (f t : List ℕ) (r : ℕ) (p : Policy) (z : 0 ≡ refusal f) (d : p ≡ policy_of f) where
   none_before : refusal f ≡ 0
-  none_before = sym (read_refusal f x d) ∙ z
+  none_before = sym z
 
-  rights_is : x.policy.rights ≡ rights_of f
+  rights_is : p.rights ≡ rights_of f
   unfolding policy_of
-  rights_is = ap (λ (p : Policy). p.rights) (read_policy f x d z)
+  rights_is = ap (λ (p : Policy). p.rights) d
 
-  pub replay_21 : x.policy.rights ≤ r → Refused 21 0 ≡ file_replay f t r
+  pub replay_21 : p.rights ≤ r → Refused 21 0 ≡ file_replay f t r
   unfolding file_replay
   replay_21 h = let w : leb (rights_of f) r ≡ true = le-leb (rights_of f) r (rw rights_is at h) in rw (none_before, w)
 
-  module _ (l : r < x.policy.rights) where
+  module _ (l : r < p.rights) where
     below : leb (rights_of f) r ≡ false
     below = lt-leb (rights_of f) r (rw rights_is at l)
 
@@ -115,7 +127,7 @@ module _ (f t : List ℕ) (r : ℕ) (x : PolicyRead) (d : x ≡ policy_read f) (
     unfolding file_replay
     replay_31 ne = rw (none_before, below, ne_eqb (length t % 5) 0 ne)
 
-    pub replay_whole : (y : Replay) → length t % 5 ≡ 0 → y ≡ replay_from (system_of x.policy) r (calls t (steps_in t)) 0 (state_of x.policy.matrix) → y ≡ file_replay f t r
+    pub replay_whole : (y : Replay) → length t % 5 ≡ 0 → y ≡ replay_from (system_of p) r (calls t (steps_in t)) 0 (state_of p.matrix) → y ≡ file_replay f t r
     unfolding file_replay policy_of
     replay_whole y e q =
-        q ∙ ap (λ (p : Policy). replay_from (system_of p) r (calls t (steps_in t)) 0 (state_of p.matrix)) (read_policy f x d z) ∙ rw (none_before, below, eq-eqb (length t % 5) 0 e)
+        q ∙ ap (λ (p : Policy). replay_from (system_of p) r (calls t (steps_in t)) 0 (state_of p.matrix)) d ∙ rw (none_before, below, eq-eqb (length t % 5) 0 e)

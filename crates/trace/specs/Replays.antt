@@ -1,6 +1,6 @@
 -- Replay (document 01): "answers with the number of the first leaking step from 0, or no leak, or the refusal of the first refused step and that step's
 -- number. It reports the first of leak and refusal."
-use Rattle.std.specs.Prelude.{ℕ, suc, ◌%◌, Bool, List, [], ◌∷◌, eqb, leb, length}
+use Rattle.std.specs.Prelude.{ℕ, suc, ◌%◌, List, [], ◌∷◌, eqb, leb, length, Option, Some, None, Result, Ok, Err}
 use Rattle.cases.specs.Cases.{pick}
 use Rattle.protection.specs.State.{State}
 use Rattle.protection.specs.Command.{System, Call}
@@ -10,8 +10,20 @@ use Rattle.layout.specs.File.{rights_of}
 use Rattle.policy.specs.Refusals.{refusal}
 use Rattle.policy.specs.Contents.{file_state, file_system}
 use Rattle.trace.specs.Traces.{calls, steps_in}
-use Rattle.trace.specs.declared.Replay.{Replay}
-use Rattle.trace.specs.declared.Replay.TheVariants.{NoLeak, Leak, Refused}
+use Rattle.refusals.specs.Numbers.{number_of}
+use Rattle.trace.specs.declared.RefusedStep.{RefusedStep}
+
+-- what a replay answers: no leak, the first leaking step, or a refusal and its step
+pub data Replay : Type 0 where
+  NoLeak : Replay
+  Leak : ℕ → Replay
+  Refused : ℕ → ℕ → Replay
+
+-- as the code answers it
+abbrev pub replay_told : Result (Option ℕ) RefusedStep → Replay
+replay_told (Ok None) = NoLeak
+replay_told (Ok (Some i)) = Leak i
+replay_told (Err x) = Refused (number_of x.by) x.step
 
 -- what step i makes of the answer, given what the later steps answer
 abbrev pub reported : ℕ → ℕ → Outcome → Replay → Replay

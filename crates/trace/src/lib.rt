@@ -2,21 +2,18 @@
 #![tactic(auto)]
 
 ghost use Rattle.std.specs.Prelude.{◌≡◌, ◌+◌, ◌*◌, ◌^◌, ◌≤◌, ◌<◌, length};
-ghost use Rattle.protection.specs.Limits.{rights};
 ghost use Rattle.policy.specs.Contents.{system_of};
 ghost use Rattle.policy.specs.Fits.{PolicyFits};
-ghost use Rattle.matrix.specs.Matrices.{state_of, matrix_of};
-ghost use Rattle.matrix.specs.Canonical.{Canonical};
-ghost use Rattle.execution.specs.Runs.{outcome_of, executed_of, ExecutedAs};
+ghost use Rattle.matrix.specs.Matrices.{state_of};
+ghost use Rattle.execution.specs.Runs.{answer_told};
 ghost use Rattle.trace.specs.Traces.{step_at, calls, steps_in};
-ghost use Rattle.trace.specs.Replays.{replay_from, file_replay};
+ghost use Rattle.trace.specs.Replays.{replay_told, replay_from, file_replay};
 ghost use Rattle.trace.specs.Ends.{end_of};
 
 use commands::Command;
-use execution::Answer;
-use matrix::Matrix;
+use execution::Done;
 use policy::Policy;
-use rights::Set;
+use refusals::Refusal;
 
 // One step of a trace: a command's number and four actuals.
 #[derive(Drop)]
@@ -25,12 +22,19 @@ struct Step {
     actuals: [u8; Command::PARAMETERS],
 }
 
-// What a replay answers: no leak, the first leaking step, or the first refused step with its refusal.
-#[derive(Drop)]
-pub enum Replay {
-    NoLeak,
-    Leak(usize),
-    Refused { by: u8, step: usize },
+// The first refused step, and why; step 0 too, where the file, the right or the trace is refused.
+#[derive(Clone, Copy)]
+pub struct RefusedStep {
+    pub by: Refusal,
+    pub step: usize,
+}
+
+impl From<Refusal> for RefusedStep {
+    ghost from_gives = { λ by refused. refused ≡ record { by = by; step = 0 } };
+
+    fn from(by: Refusal) -> Self {
+        RefusedStep { by, step: 0 }
+    }
 }
 
 // The five bytes of step i.
@@ -81,70 +85,46 @@ impl<'a> TraceReader<'a> {
 }
 
 // How a replay ends at step i.
-fn end_of(answer: Answer, i: usize) -> Replay
-    ensures { result ≡ end_of answer i }
+fn end_of(answer: Result<Done, Refusal>, i: usize) -> Result<Option<usize>, RefusedStep>
+    ensures { replay_told result ≡ end_of (answer_told answer) i }
 {
     match answer {
-        Answer::Refused(n) => Replay::Refused { by: n, step: i },
-        Answer::Done => Replay::NoLeak,
-        Answer::Leaked => Replay::Leak(i),
+        Err(by) => Err(RefusedStep { by, step: i }),
+        Ok(Done::NoLeak) => Ok(None),
+        Ok(Done::Leak) => Ok(Some(i)),
     }
 }
 
-// A step on the lent kinds and cells, for the loop below, which holds a reader and so is proved by hand.
-fn play(
-    p: Policy,
-    kinds: &mut [u8; Matrix::NAMES],
-    cells: &mut [Set; Matrix::NAMES * Matrix::NAMES],
-    step: Step,
-    right: u8,
-) -> Answer
-    requires { PolicyFits p × Canonical rights kinds.old cells.old }
-    ensures { ExecutedAs right (outcome_of p (matrix_of kinds.old cells.old) step.command step.actuals) (matrix_of kinds.old cells.old) (executed_of result (matrix_of kinds.new cells.new)) }
-{
-    let actuals = step.actuals;
-    execution::call(p, kinds, cells, step.command, actuals, right)
-}
-
-// The steps in order, on a copy of the matrix.
-fn replay_steps(p: Policy, trace: &[u8], right: u8) -> Replay
-    requires { PolicyFits p }
-    ensures { result ≡ replay_from (system_of p) right (calls trace.now (steps_in trace.now)) 0 (state_of p.matrix) }
+// The steps in order, on a copy of the matrix: the number of the first leaking one, if there is one, or the first refused one.
+fn replay_steps(p: &Policy, trace: &[u8], right: u8) -> Result<Option<usize>, RefusedStep>
+    requires { PolicyFits p.now }
+    ensures { replay_told result ≡ replay_from (system_of p.now) right (calls trace.now (steps_in trace.now)) 0 (state_of p.now.matrix) }
 {
     let n = trace.len() / 5;
-    let matrix = p.matrix;
-    let mut kinds = matrix.kinds;
-    let mut cells = matrix.cells;
+    let mut matrix = p.matrix;
     let mut reader = TraceReader::new(trace);
+    // the reader itself remembers how far it has come, as document 01 says
     while reader.at < n {
         let step = reader.step();
-        let answer = play(p, &mut kinds, &mut cells, step, right);
-        let Answer::Done = answer else {
+        let answer = execution::call(p, &mut matrix, step.command, step.actuals, right);
+        let Ok(Done::NoLeak) = answer else {
             return end_of(answer, reader.at);
         };
         reader = reader.past();
     }
-    Replay::NoLeak
+    Ok(None)
 }
 
 // Replays a trace on a file, with the right whose leak is asked about.
-pub fn replay_file(file: &[u8], trace: &[u8], right: u8) -> Replay
-    ensures { result ≡ file_replay file.now trace.now right }
+pub fn replay_file(file: &[u8], trace: &[u8], right: u8) -> Result<Option<usize>, RefusedStep>
+    ensures { replay_told result ≡ file_replay file.now trace.now right }
 {
-    let read = policy::read_policy(file);
-    let refused = read.refused;
-    if refused != 0 {
-        return Replay::Refused {
-            by: refused,
-            step: 0,
-        };
-    }
-    let p = read.policy;
+    let p = policy::read_policy(file)?;
     if p.rights <= right {
-        return Replay::Refused { by: 21, step: 0 };
+        return Err(RefusedStep::from(Refusal::NoRight));
     }
     if trace.len() % 5 != 0 {
-        return Replay::Refused { by: 31, step: 0 };
+        return Err(RefusedStep::from(Refusal::TraceLength));
     }
-    replay_steps(p, trace, right)
+    replay_steps(&p, trace, right)
 }

@@ -10,7 +10,7 @@ use native.Mathlib.Decide.{dec_lt}
 use borrow.Author.Tests.{ne_eqb}
 use lib.Dec.{T, eqb, eqb_refl, ltb→lt}
 use lib.ListN.{get_or, get_elem?}
-use Rattle.cases.specs.Cases.{all, tabulate}
+use Rattle.cases.specs.Cases.{all}
 use Rattle.cases.proofs.Lists.{found_tabulate, none_tabulate}
 use Rattle.protection.specs.Limits.{names, rights, parameters}
 use Rattle.protection.specs.State.{State}

@@ -1,13 +1,14 @@
 -- Writing kinds and cells into the lent file, and what a rule run answers of it. Assumes nothing.
-use Prim.Native.Nat.{ℕ, ◌+◌, ◌*◌, ◌-◌, ◌≤◌}
+use Rattle.std.specs.Prelude.{Result, Ok, Err, IsErrAnd}
+use Prim.Native.Nat.{ℕ, ◌+◌, ◌*◌, ◌-◌, ◌<◌}
 use mathlib.Core.Path.{◌≡◌, refl, sym, ap, ap₂, ◌∙◌}
 use mathlib.Core.Bool.{Bool, true, false}
-use mathlib.Core.List.{List, [], ◌∷◌, ◌++◌, append_assoc, append-nil}
+use mathlib.Core.List.{List, [], ◌∷◌, ◌++◌, append_assoc}
 use native.Mathlib.Omega.{arith}
 use borrow.Author.Tests.{ne_eqb}
 use lib.Dec.{eqb}
-use lib.ListN.{length, take, drop, length-drop, drop_of_length-le}
-use lib.Seq.{take_all, take-length, drop-drop}
+use lib.ListN.{length, take, drop}
+use lib.Seq.{drop-drop}
 use Rattle.cases.specs.Cases.{pick}
 use Rattle.rights.specs.Bytes.{set_bytes, bytes_of}
 use Rattle.rights.proofs.SetBytes.{length_bytes}
@@ -21,16 +22,16 @@ use Rattle.matrix.specs.declared.Matrix.{Matrix}
 use Rattle.matrix.proofs.Inverse.{kinds_back, cells_back}
 use Rattle.layout.specs.File.{word}
 use Rattle.policy.specs.Refusals.{refusal}
-use Rattle.policy.specs.Contents.{over, written, policy_of, policy_read, file_state}
+use Rattle.policy.specs.Contents.{over, written, policy_of, file_state}
 use Rattle.policy.specs.declared.Policy.{Policy}
-use Rattle.policy.specs.declared.PolicyRead.{PolicyRead}
-use Rattle.policy.proofs.Laws.{read_refusal}
-use Rattle.policy.proofs.ReadPolicy.{policy_is}
-use Rattle.execution.specs.Runs.{answer_of, outcome_of, ExecutedAs}
+use Rattle.refusals.specs.Numbers.{number_of, code}
+use Rattle.refusals.specs.declared.Refusal.{Refusal}
+use Rattle.refusals.proofs.Codes.{number_above, code_handed}
+use Rattle.execution.specs.Runs.{Answer, Refused, Done, Leaked, answer_told, answer_of, executed_of, outcome_of, ExecutedAs}
+use Rattle.execution.specs.declared.Done.{Done as CodeDone}
+use Rattle.execution.specs.declared.Done.TheVariants.{NoLeak, Leak}
 use Rattle.update.specs.Files.{file_outcome, run_code, run_file, FileRun}
 use Rattle.update.proofs.Demand2.{file_run}
-use Rattle.execution.specs.declared.Answer.TheVariants.{Refused, Done, Leaked}
-use Rattle.execution.specs.declared.Executed.{Executed}
 
 -- ---- the answers are told apart
 refused_is : (k n : ℕ) → Refused k ≡ Refused n → k ≡ n
@@ -64,58 +65,57 @@ store_is f x y m k c K dk dc dx dy =
     ∙ ap₂ (λ (a b : List ℕ). over (over f (word f 2) a) (word f 6) (bytes_of b)) (sym ks) (sym cs)
 
 -- ---- a rule run on a file that was not refused
-module _ (f : List ℕ) (x : PolicyRead) (d : x ≡ policy_read f) (z : x.refused ≡ 0) where
-  module _ (c a0 a1 a2 a3 : ℕ) where
-    abbrev call : Call
-    call = record { command = c; a0 = a0; a1 = a1; a2 = a2; a3 = a3 }
+module _ (f : List ℕ) (p : Policy) (z : refusal f ≡ 0) (d : p ≡ policy_of f) (x : Call) where
+  abbrev outcome : Outcome
+  outcome = outcome_of p p.matrix x.command (x.a0 ∷ x.a1 ∷ x.a2 ∷ x.a3 ∷ [])
 
-    outcome_is : outcome_of x.policy x.policy.matrix c (a0 ∷ a1 ∷ a2 ∷ a3 ∷ []) ≡ file_outcome f call
-    unfolding policy_of
-    outcome_is = ap (λ (p : Policy). outcome_of p p.matrix c (a0 ∷ a1 ∷ a2 ∷ a3 ∷ [])) (policy_is f x d z)
+  outcome_is : outcome ≡ file_outcome f x
+  unfolding policy_of
+  outcome_is = ap (λ (q : Policy). outcome_of q q.matrix x.command (x.a0 ∷ x.a1 ∷ x.a2 ∷ x.a3 ∷ [])) d
 
-    none_before : refusal f ≡ 0
-    none_before = sym (read_refusal f x d) ∙ z
+  state_before : state_of p.matrix ≡ file_state f
+  unfolding policy_of
+  state_before = ap (λ (q : Policy). state_of q.matrix) d
 
-    state_before : state_of x.policy.matrix ≡ file_state f
-    unfolding policy_of
-    state_before = ap (λ (p : Policy). state_of p.matrix) (policy_is f x d z)
+  module _ (w : Answer) (m : Matrix) (h : ExecutedAs 0 outcome p.matrix (executed_of w m)) where
+    answered : w ≡ answer_of 0 (file_outcome f x)
+    answered = h.answer ∙ ap (answer_of 0) outcome_is
 
-    module _ (e : Executed) (h : ExecutedAs 0 (outcome_of x.policy x.policy.matrix c (a0 ∷ a1 ∷ a2 ∷ a3 ∷ [])) x.policy.matrix e) where
-      answered : e.answer ≡ answer_of 0 (file_outcome f call)
-      answered = h.answer ∙ ap (answer_of 0) outcome_is
+    left : state_of m ≡ after (file_outcome f x) (file_state f)
+    left = h.state ∙ ap₂ after outcome_is state_before
 
-      left : state_of e.matrix ≡ after (file_outcome f call) (file_state f)
-      left = h.state ∙ ap₂ after outcome_is state_before
+    answer-refused : (n : ℕ) → w ≡ Refused n → FileRun f x n f
+    unfolding run_code run_file
+    answer-refused n q = go (file_outcome f x) refl
+      where
+        go : (o : Outcome) → file_outcome f x ≡ o → FileRun f x n f
+        go (refused k) v =
+            let same : k ≡ n = refused_is k n (sym (answered ∙ ap (answer_of 0) v) ∙ q) in
+            file_run f x n f (rw (z, v) (sym same)) (rw (z, v))
+        go (done m' new) v = absurd (done_not n (new 0) (sym (answered ∙ ap (answer_of 0) v) ∙ q))
 
-      pub run-refused : (n : ℕ) → e.answer ≡ Refused n → FileRun f call n f
-      unfolding run_code run_file
-      run-refused n q = go (file_outcome f call) refl
-        where
-          go : (o : Outcome) → file_outcome f call ≡ o → FileRun f call n f
-          go (refused k) w =
-              let same : k ≡ n = refused_is k n (sym (answered ∙ ap (answer_of 0) w) ∙ q) in
-              file_run f call n f (rw (none_before, w) (sym same)) (rw (none_before, w))
-          go (done m new) w = absurd (done_not n (new 0) (sym (answered ∙ ap (answer_of 0) w) ∙ q))
+    answer-done : (b : Bool) (f' : List ℕ) → w ≡ pick b Leaked Done → f' ≡ written f (state_of m) → FileRun f x 0 f'
+    unfolding run_code run_file
+    answer-done b f' q e = go (file_outcome f x) refl
+      where
+        go : (o : Outcome) → file_outcome f x ≡ o → FileRun f x 0 f'
+        go (refused k) v = absurd (done_not k b (sym q ∙ (answered ∙ ap (answer_of 0) v)))
+        go (done m' new) v =
+            let s : state_of m ≡ m' = left ∙ ap (λ (o : Outcome). after o (file_state f)) v in
+            file_run f x 0 f' (rw (z, v)) (e ∙ ap (written f) s ∙ sym (rw (z, v)))
 
-      pub run-done : (b : Bool) (f' : List ℕ) → e.answer ≡ pick b Leaked Done → f' ≡ written f (state_of e.matrix) → FileRun f call 0 f'
-      unfolding run_code run_file
-      run-done b f' q w = go (file_outcome f call) refl
-        where
-          go : (o : Outcome) → file_outcome f call ≡ o → FileRun f call 0 f'
-          go (refused k) v = absurd (done_not k b (sym q ∙ (answered ∙ ap (answer_of 0) v)))
-          go (done m new) v =
-              let s : state_of e.matrix ≡ m = left ∙ ap (λ (o : Outcome). after o (file_state f)) v in
-              file_run f call 0 f' (rw (none_before, v)) (w ∙ ap (written f) s ∙ sym (rw (none_before, v)))
+  -- the code's answer, handed on
+  pub run-refused : (m : Matrix) (e : Refusal) (y : Result (Unit {0}) Refusal) → ExecutedAs 0 outcome p.matrix (executed_of (answer_told (Err e)) m) → IsErrAnd y (λ r. r ≡ e) → FileRun f x (code y) f
+  run-refused m e y h b = rw (code_handed y e (number_of e) b refl) (answer-refused (Refused (number_of e)) m h (number_of e) refl)
 
-      pub run_quiet : (f' : List ℕ) → e.answer ≡ Done → f' ≡ written f (state_of e.matrix) → FileRun f call 0 f'
-      run_quiet = run-done false
+  pub run-done : (m : Matrix) (k : CodeDone) (f' : List ℕ) → ExecutedAs 0 outcome p.matrix (executed_of (answer_told (Ok k)) m) → f' ≡ written f (state_of m) → FileRun f x 0 f'
+  run-done m NoLeak f' h e = answer-done Done m h false f' refl e
+  run-done m Leak f' h e = answer-done Leaked m h true f' refl e
 
-      pub run_leaked : (f' : List ℕ) → e.answer ≡ Leaked → f' ≡ written f (state_of e.matrix) → FileRun f call 0 f'
-      run_leaked = run-done true
-
-pub run_bad_file : (f : List ℕ) (x : PolicyRead) (c : Call) → x ≡ policy_read f → (x.refused ≡ 0 → ⊥) → FileRun f c x.refused f
+-- ---- and on one that was
+pub run_bad_file : (f : List ℕ) (x : Call) (e : Refusal) (y : Result (Unit {0}) Refusal) → number_of e ≡ refusal f → IsErrAnd y (λ r. r ≡ e) → FileRun f x (code y) f
 unfolding run_code run_file
-run_bad_file f x c d ne =
-    let w : refusal f ≡ x.refused = sym (read_refusal f x d) in
-    let z : eqb x.refused 0 ≡ false = ne_eqb x.refused 0 ne in
-    file_run f c x.refused f (rw (w, z)) (rw (w, z))
+run_bad_file f x e y d b =
+    let l : 0 < number_of e = number_above e in
+    let t : eqb (refusal f) 0 ≡ false = ne_eqb (refusal f) 0 (λ z. omega arith) in
+    rw (code_handed y e (number_of e) b refl) (file_run f x (number_of e) f (rw t d) (rw t))

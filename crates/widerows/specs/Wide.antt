@@ -1,8 +1,8 @@
 -- Twelve rights (document 02, C-21): "a cell and a carry entry are two bytes low byte first"; rights on both sides of the byte's end in every call.
 use Rattle.std.specs.Prelude.{ℕ, List, [], ◌∷◌, ◌++◌, replicate}
-use Rattle.trace.specs.declared.Replay.TheVariants.{NoLeak, Leak}
-use Rattle.safety.specs.declared.Judgement.TheVariants.{Safe, Unsafe}
-use Rattle.needs.specs.declared.Need.TheVariants.{Held, Never}
+use Rattle.trace.specs.Replays.{NoLeak, Leak}
+use Rattle.safety.specs.Demand3.{Safe, Unsafe}
+use Rattle.needs.specs.Needed.{Held, Never}
 use Rattle.rows.specs.Build.{KindAt, an_object, a_subject, subjects_below, CellAt, cell_with, if_in, enter, delete, destroy_subject, destroy_object, rule_bytes, on_name, on_cell, entering, file_carrying, file_of, call, trace, text}
 use Rattle.rows.specs.Cases.{Case, runs, replays, prints, Row, row}
 use Rattle.rows.specs.Asked.{judge_refused, judge_answers, need_refused, need_answers, part_answers, ask, entry, part, sheet_fills}

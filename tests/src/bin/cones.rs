@@ -87,6 +87,8 @@ fn imported(line: &str) -> Option<(String, Vec<String>)> {
         .trim_start_matches("pub ")
         .strip_prefix("use Rattle.")?;
     let (module, names) = line.split_once(".{").unwrap_or((line, ""));
+    // one that is imported whole, under a name
+    let module = module.split(" as ").next().unwrap_or(module);
     let (home, file) = module.split_once(".specs.")?;
     if file.starts_with("declared") || !Path::new(CRATES).join(home).exists() {
         return None;

@@ -1,22 +1,10 @@
-use Rattle.cases.proofs.Filling.{filling_start, filling_more}
+use Rattle.std.proofs.Common.{rules}
+use lib.Dec.{eqb}
+use Rattle.protection.specs.Limits.{rights}
+use Rattle.rights.specs.Rights.{number}
+use Rattle.cases.proofs.FromFn.{table_made}
 use Rattle.carries.proofs.Closing.{alone_is, alone_end}
-use native.Mathlib.Omega.{arith}
 use Rattle.carries.proofs.alone.Goals as goal
 
-pub loop-i-init : goal.loop-i-init
-loop-i-init c = (omega arith, search filling_start)
-
-pub offset_bounds-all-i : goal.offset_bounds-all-i
-offset_bounds-all-i c = omega arith
-
-pub overflow_step-i : goal.overflow_step-i
-overflow_step-i c = omega arith
-
-pub loop-i-smaller : goal.loop-i-smaller
-loop-i-smaller c = omega arith
-
-pub loop-i-preserved : goal.loop-i-preserved
-loop-i-preserved c = (omega arith, search (filling_more, alone_is))
-
 pub returns : goal.returns
-returns c = search alone_end
+returns c = alone_end _ (table_made _ _ (λ i. number (eqb i) rights) rights (λ x r q l k. (search rules, alone_is _ _ l (search rules))) _ c.from_fn.ensures.items)

@@ -5,12 +5,6 @@ use Rattle.carries.proofs.carried.Goals as goal
 pub loop-init : goal.loop-init
 loop-init c = (omega arith, c.alone-ends.ensures _ _)
 
-pub overflow_step : goal.overflow_step
-overflow_step c = omega arith
-
-pub loop-smaller : goal.loop-smaller
-loop-smaller c = omega arith
-
 pub loop-preserved : goal.loop-preserved
 loop-preserved c = (omega arith, ends_more _ _ _ _ (c.one_more-next.ensures _ c.loop.invariant.1))
 

@@ -1,22 +1,10 @@
-use Rattle.cases.proofs.Filling.{filling_start, filling_more}
+use Rattle.std.proofs.Common.{rules}
+use lib.ListN.{get_or}
+use Rattle.protection.specs.Limits.{rights}
+use Rattle.rights.specs.Rights.{has, number}
+use Rattle.cases.proofs.FromFn.{table_made}
 use Rattle.carries.proofs.Closing.{turned}
-use native.Mathlib.Omega.{arith}
 use Rattle.carries.proofs.carriers.Goals as goal
 
-pub loop-q-init : goal.loop-q-init
-loop-q-init c = (omega arith, search filling_start)
-
-pub offset_bounds-all-q : goal.offset_bounds-all-q
-offset_bounds-all-q c = omega arith
-
-pub overflow_step-q : goal.overflow_step-q
-overflow_step-q c = omega arith
-
-pub loop-q-smaller : goal.loop-q-smaller
-loop-q-smaller c = omega arith
-
-pub loop-q-preserved : goal.loop-q-preserved
-loop-q-preserved c = (omega arith, filling_more _ _ _ _ _ _ (omega arith) c.holders-set.ensures c.loop-q.invariant.1)
-
 pub returns : goal.returns
-returns c = turned _ _ _ _ (omega arith) c.loop-q.invariant.1
+returns c = turned _ _ (table_made _ _ (λ q. number (λ i. has (get_or c.args.carried i 0) q) rights) rights (λ x r q l k. search rules) _ c.from_fn.ensures.items)

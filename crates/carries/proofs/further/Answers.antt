@@ -4,20 +4,8 @@ use native.Mathlib.Omega.{arith}
 use Rattle.carries.proofs.further.Goals as goal
 use Rattle.carries.proofs.further.Goals.{else-holds, then-holds}
 
-pub offset_bounds-carries-i : goal.offset_bounds-carries-i
-offset_bounds-carries-i c = omega arith
-
 pub loop-j-init : goal.loop-j-init
 loop-j-init c = (omega arith, gathering_start _ _ _ _ (omega arith) c.with_right-set.ensures)
-
-pub offset_bounds-ends-j : goal.offset_bounds-ends-j
-offset_bounds-ends-j c = omega arith
-
-pub overflow_step-j : goal.overflow_step-j
-overflow_step-j c = omega arith
-
-pub loop-j-smaller : goal.loop-j-smaller
-loop-j-smaller c = omega arith
 
 pub loop-j-preserved : goal.loop-j-preserved
 loop-j-preserved c = (omega arith, elim c.if-holds.branch [ then-holds w ↦ gathering_yes _ _ _ _ _ _ c.loop-j.invariant.1 c.holds.ensures (search rules) _ w.set-is | else-holds w ↦ search gathering_no ])

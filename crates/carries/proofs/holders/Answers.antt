@@ -7,17 +7,8 @@ use Rattle.carries.proofs.holders.Goals.{else-holds, then-holds}
 pub loop-i-init : goal.loop-i-init
 loop-i-init c = (omega arith, search holding_start)
 
-pub offset_bounds-sets-i : goal.offset_bounds-sets-i
-offset_bounds-sets-i c = omega arith
-
-pub overflow_step-i : goal.overflow_step-i
-overflow_step-i c = omega arith
-
-pub loop-i-smaller : goal.loop-i-smaller
-loop-i-smaller c = omega arith
-
 pub loop-i-preserved : goal.loop-i-preserved
-loop-i-preserved c = (omega arith, elim c.if-holds.branch [ then-holds w ↦ holding_yes _ _ _ _ _ c.loop-i.invariant.1 c.holds.ensures w.if-holds.true (omega arith) _ (w.set-is ∙ w.with_right-more.ensures) | else-holds w ↦ search holding_no ])
+loop-i-preserved c = (omega arith, elim c.if-holds.branch [ then-holds w ↦ holding_yes _ _ _ _ _ c.loop-i.invariant.1 c.holds.ensures w.if-holds.true (omega arith) _ (w.set-is ∙ w.with_right-set.ensures) | else-holds w ↦ search holding_no ])
 
 pub returns : goal.returns
 returns c = holding_end _ _ _ _ (omega arith) c.loop-i.invariant.1

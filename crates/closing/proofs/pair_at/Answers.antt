@@ -1,30 +1,20 @@
-use Rattle.closing.proofs.OneCell.{cell_asked, cell_unreturned, covers_taken, cell_untaken, covers_returned, cell_both}
-use borrow.Author.Rules.{rules}
-use Rattle.closing.proofs.pair_at.Reads as reads
-use Rattle.closing.proofs.pair_at.Lts as lts
-use Rattle.closing.proofs.asked.lacking_at.Reads as lacking-at-reads
-use Rattle.closing.proofs.asked.left.Reads as left-reads
-use Rattle.calls.proofs.first_call.Reads as first-call-reads
-use Rattle.calls.proofs.first_return.Reads as first-return-reads
-use Rattle.closing.proofs.no_pair.Reads as no-pair-reads
+use Rattle.closing.proofs.OneCell.{cell_asked, cell_unreturned, covers_taken, cell_untaken, cell_not_back, covers_returned, cell_both}
 use Rattle.closing.proofs.pair_at.Goals as goal
 
--- src/lib.rt:251:9
 pub returns-then-returners-eq0 : goal.returns-then-returners-eq0
 returns-then-returners-eq0 c = search cell_unreturned
 
--- src/lib.rt:260:9
-pub first_call-taken-requires : goal.first_call-taken-requires
-first_call-taken-requires c = (search cell_asked, search covers_taken)
+pub first_call-requires : goal.first_call-requires
+first_call-requires c = (search cell_asked, search covers_taken)
 
--- src/lib.rt:262:9
-pub returns-then-not-taken : goal.returns-then-not-taken
-returns-then-not-taken c = search cell_untaken
+pub returns-in_err-taken : goal.returns-in_err-taken
+returns-in_err-taken c = search (cell_untaken, c.in_err-taken.ensures)
 
--- src/lib.rt:270:9
-pub first_return-returned-requires : goal.first_return-returned-requires
-first_return-returned-requires c = (search cell_asked, search covers_returned)
+pub first_return-requires : goal.first_return-requires
+first_return-requires c = (search cell_asked, search covers_returned)
 
--- src/lib.rt:230:1
 pub returns : goal.returns
-returns c = search cell_both
+returns c = search (cell_both, c.in_ok-taken.ensures, c.in_ok-returned.ensures)
+
+pub returns-in_err-returned : goal.returns-in_err-returned
+returns-in_err-returned c = search (cell_not_back, c.in_err-returned.ensures)

@@ -1,58 +1,14 @@
-use Prim.Native.Nat.{◌≤◌, ◌-◌}
 use mathlib.Core.Path.{◌≡◌}
-use native.Mathlib.Nat.{sub-zero}
-use Rattle.cases.specs.Cases.{all}
-use Rattle.cases.proofs.Loops.{all_end}
-use Rattle.commands.specs.Refusals.{operation_fits_at}
-use Rattle.commands.proofs.Reading.{steps_stop, steps_next}
+use mathlib.Core.Bool.{true, false}
 use native.Mathlib.Omega.{arith}
-use borrow.Author.Rules.{rules}
+use Rattle.std.proofs.Common.{rules, tests}
+use Rattle.std.proofs.lemmas.Iterator.{cases_from_all, YieldsList-from_range}
+use Rattle.cases.proofs.Slices.{all_of_range}
+use Rattle.commands.specs.Refusals.{operation_fits_at}
 use Rattle.commands.proofs.operations_fit.Goals as goal
 
-pub loop-j-init : goal.loop-j-init
-loop-j-init c = (omega arith, rw sub-zero)
-
-pub overflow_mul-at : goal.overflow_mul-at
-overflow_mul-at c = omega arith
-
-pub overflow_add-at : goal.overflow_add-at
-overflow_add-at c = omega arith
-
-pub bounds-part-at : goal.bounds-part-at
-bounds-part-at c = omega arith
-
-pub overflow_add-at-in-loop-j : goal.overflow_add-at-in-loop-j
-overflow_add-at-in-loop-j c = omega arith
-
-pub bounds-part-at-in-loop-j : goal.bounds-part-at-in-loop-j
-bounds-part-at-in-loop-j c = omega arith
-
-pub overflow_add-at-in-loop-j-2 : goal.overflow_add-at-in-loop-j-2
-overflow_add-at-in-loop-j-2 c = omega arith
-
-pub bounds-part-at-in-loop-j-2 : goal.bounds-part-at-in-loop-j-2
-bounds-part-at-in-loop-j-2 c = omega arith
-
-pub overflow_add-at-in-loop-j-3 : goal.overflow_add-at-in-loop-j-3
-overflow_add-at-in-loop-j-3 c = omega arith
-
-pub bounds-part-at-in-loop-j-3 : goal.bounds-part-at-in-loop-j-3
-bounds-part-at-in-loop-j-3 c = omega arith
-
-pub bounds-part-0 : goal.bounds-part-0
-bounds-part-0 c = omega arith
-
-pub returns-then-not-is_read : goal.returns-then-not-is_read
-returns-then-not-is_read c = search steps_stop
-
-pub overflow_step-j : goal.overflow_step-j
-overflow_step-j c = omega arith
-
-pub loop-j-smaller : goal.loop-j-smaller
-loop-j-smaller c = omega arith
-
-pub loop-j-preserved : goal.loop-j-preserved
-loop-j-preserved c = (omega arith, search steps_next)
-
 pub returns : goal.returns
-returns c = search all_end
+returns c =
+    let fit = operation_fits_at c.args.g c.args.part.now c.args.from in
+    all_of_range fit (λ i. fit i ≡ true) (λ i. fit i ≡ false) 0 _ _ (λ i l h e. e) (λ i l h e. e)
+    (cases_from_all _ _ _ (λ i. fit i ≡ true) (λ i. fit i ≡ false) c.all.ensures.ran (YieldsList-from_range 0 c.args.count c.args.count (search rules) (omega arith)) (λ x q k. search (rules, tests)) (λ x q k. search (rules, tests)))

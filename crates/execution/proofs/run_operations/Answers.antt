@@ -1,15 +1,11 @@
 use mathlib.Core.Bool.{not}
 use mathlib.Core.Path.{ap}
-use Prim.Native.Nat.{◌≤◌, ◌-◌}
-use mathlib.Core.Path.{◌≡◌, refl}
-use Rattle.matrix.specs.Matrices.{matrix_of}
-use Rattle.execution.proofs.Running.{Going, applies_at, going_start, going_stop, going_more, going_end}
-use borrow.Author.Rules.{rules}
+use Rattle.execution.proofs.Running.{applies_at, going_start, going_stop, going_more, going_end}
 use native.Mathlib.Omega.{arith}
 use Rattle.execution.proofs.run_operations.Goals as goal
 
 pub loop-j-init : goal.loop-j-init
-loop-j-init c = (omega arith, refl, going_start _ _ _ _ c.requires.0)
+loop-j-init c = (omega arith, going_start _ _ _ _ c.requires.0)
 
 pub operation_at-operation-requires : goal.operation_at-operation-requires
 operation_at-operation-requires c = (c.requires.1.fits, omega arith)
@@ -33,7 +29,7 @@ pub loop-j-smaller : goal.loop-j-smaller
 loop-j-smaller c = omega arith
 
 pub loop-j-preserved : goal.loop-j-preserved
-loop-j-preserved c = (omega arith, omega arith, going_more _ _ _ _ _ _ _ c.loop-j.invariant.2 (omega arith) c.operation_at-operation.result c.operation_at-operation.ensures _ c.can_do.ensures c.requires.1 (ap not c.if-not-can_do.false) _ c.enters_new-leaked.ensures _ c.perform.ensures)
+loop-j-preserved c = (omega arith, going_more _ _ _ _ _ _ _ c.loop-j.invariant.1 (omega arith) c.operation_at-operation.result c.operation_at-operation.ensures _ c.can_do.ensures c.requires.1 (ap not c.if-not-can_do.false) _ c.enters_new-leaked.ensures _ c.perform.ensures)
 
 pub returns : goal.returns
 returns c = search going_end

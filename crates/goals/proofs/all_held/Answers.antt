@@ -1,31 +1,20 @@
-use Prim.Native.Nat.{◌≤◌, ◌-◌}
-use mathlib.Core.Path.{◌≡◌}
+use mathlib.Core.Path.{◌≡◌, ◌∙◌}
+use mathlib.Core.Bool.{true, false}
+use Prim.Native.Nat.{ℕ}
 use native.Mathlib.Nat.{sub-zero}
-use Rattle.cases.specs.Cases.{tabulate}
-use Rattle.protection.specs.Need.{holds_all}
+use Rattle.std.proofs.Common.{rules, tests}
+use Rattle.std.proofs.lemmas.Iterator.{cases_from_all, YieldsList-from_range}
+use Rattle.cases.proofs.Slices.{all_of_range}
 use Rattle.matrix.specs.Bytes.{view}
 use Rattle.goals.specs.Goals.{needed_at}
-use Rattle.goals.proofs.Holding.{cell_stop, cell_next, cells_end}
-use native.Mathlib.Omega.{arith}
+use Rattle.goals.proofs.Holding.{holds_one, held_all}
 use Rattle.goals.proofs.all_held.Goals as goal
 
-pub loop-j-init : goal.loop-j-init
-loop-j-init c = (omega arith, rw sub-zero)
-
-pub cell_held-requires : goal.cell_held-requires
-cell_held-requires c = c.requires.all c.loop-j.j (omega arith)
-
-pub returns-then-not-cell_held : goal.returns-then-not-cell_held
-returns-then-not-cell_held c = search cell_stop
-
-pub overflow_step-j : goal.overflow_step-j
-overflow_step-j c = omega arith
-
-pub loop-j-smaller : goal.loop-j-smaller
-loop-j-smaller c = omega arith
-
-pub loop-j-preserved : goal.loop-j-preserved
-loop-j-preserved c = (omega arith, search cell_next)
-
 pub returns : goal.returns
-returns c = search cells_end
+returns c =
+    let n = c.args.needed.count in
+    let m = view c.args.matrix.now.kinds c.args.matrix.now.cells in
+    let held = λ (j : ℕ). holds_one m (needed_at c.args.needed.cells j) in
+    all_of_range held (λ j. held j ≡ true) (λ j. held j ≡ false) 0 n _ (λ j l h t. t) (λ j l h t. t)
+    (cases_from_all _ _ _ (λ j. held j ≡ true) (λ j. held j ≡ false) c.all.ensures.ran (YieldsList-from_range 0 n n (search rules) (sub-zero n)) (λ x q b. search (rules, tests)) (λ x q b. search (rules, tests)))
+    ∙ held_all m c.args.needed.cells n 0

@@ -1,13 +1,8 @@
 use Rattle.listing.proofs.Judging.{too_short, nothing_read, file_read}
-use Rattle.listing.proofs.Whole.{empty_room}
-use borrow.Author.Rules.{rules}
 use Rattle.listing.proofs.answer.Goals as goal
 
 pub returns-then-out-lt-BYTES : goal.returns-then-out-lt-BYTES
 returns-then-out-lt-BYTES c = search too_short
-
-pub put_head-requires : goal.put_head-requires
-put_head-requires c = search empty_room
 
 pub returns-then-input-eq0 : goal.returns-then-input-eq0
 returns-then-input-eq0 c = search nothing_read

@@ -1,5 +1,4 @@
 use Rattle.listing.proofs.Written.{put_all}
-use borrow.Author.Rules.{rules}
 use Rattle.listing.proofs.put.Goals as goal
 
 pub returns : goal.returns

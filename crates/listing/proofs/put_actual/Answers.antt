@@ -1,5 +1,4 @@
 use Rattle.listing.proofs.Written.{hidden_put, shown_put}
-use borrow.Author.Rules.{rules}
 use Rattle.listing.proofs.put_actual.Goals as goal
 
 pub returns-then-not-shown : goal.returns-then-not-shown

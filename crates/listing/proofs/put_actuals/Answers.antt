@@ -1,5 +1,4 @@
 use Rattle.listing.proofs.Written.{actuals_put}
-use borrow.Author.Rules.{rules}
 use Rattle.listing.proofs.put_actuals.Goals as goal
 
 pub returns : goal.returns

@@ -1,5 +1,4 @@
 use Rattle.listing.proofs.Written.{put_one}
-use borrow.Author.Rules.{rules}
 use Rattle.listing.proofs.put_byte.Goals as goal
 
 pub returns : goal.returns

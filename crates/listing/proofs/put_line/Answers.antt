@@ -1,5 +1,4 @@
 use Rattle.listing.proofs.Written.{line_put}
-use borrow.Author.Rules.{rules}
 use Rattle.listing.proofs.put_line.Goals as goal
 
 pub returns : goal.returns

@@ -1,13 +1,9 @@
-use mathlib.Core.Logic.{⊎_elim}
-use Rattle.listing.proofs.Lines.{no_parameters, lines_start, lines_next, lines_end}
 use Prim.Native.Nat.{◌+◌, ◌*◌, ◌-◌, ◌≤◌}
-use mathlib.Core.Path.{◌≡◌, refl}
-use lib.ListN.{length, get_or}
+use mathlib.Core.Path.{◌≡◌}
+use lib.ListN.{length}
 use Rattle.trace.specs.Traces.{calls}
-use Rattle.listing.specs.Listing.{parameters_of, lines}
+use Rattle.listing.specs.Listing.{lines}
 use Rattle.listing.specs.Writing.{Put}
-use borrow.Author.Rules.{rules}
-use native.Mathlib.Omega.{arith}
 use Rattle.listing.proofs.put_lines.Given as goal
 
 abbrev pub invariant-loop-i : goal.invariant-loop-i

@@ -1,5 +1,4 @@
 use Rattle.listing.proofs.Written.{number_room, number_put, one_digit_put, two_digits_put}
-use borrow.Author.Rules.{rules}
 use Rattle.listing.proofs.put_number.Goals as goal
 
 pub returns-then-n-lt10 : goal.returns-then-n-lt10

@@ -1,33 +1,21 @@
-use Prim.Native.Nat.{◌≤◌, ◌-◌}
-use mathlib.Core.Path.{◌≡◌}
+use mathlib.Core.Path.{◌≡◌, ◌∙◌}
+use mathlib.Core.Bool.{true, false}
 use mathlib.Core.List.{[]}
-use native.Mathlib.Nat.{sub-zero}
+use Prim.Native.Nat.{ℕ}
 use native.Mathlib.Omega.{arith}
-use Rattle.cases.specs.Cases.{tabulate}
+use Rattle.std.proofs.Common.{rules, tests}
+use Rattle.std.proofs.lemmas.Iterator.{cases_from_all, YieldsList-from_range}
+use Rattle.cases.proofs.Slices.{all_of_range}
 use Rattle.matrix.specs.Bytes.{view}
 use Rattle.goals.specs.Goals.{needed_at}
-use Rattle.needs.specs.Needed.{cells_taken}
-use Rattle.needs.proofs.Listed.{taken_stop, taken_next, taken_end}
-use borrow.Author.Rules.{rules}
+use Rattle.needs.specs.Needed.{cell_taken}
+use Rattle.needs.proofs.Listed.{taken_all}
 use Rattle.needs.proofs.cells_taken.Goals as goal
 
-pub loop-j-init : goal.loop-j-init
-loop-j-init c = (omega arith, rw sub-zero)
-
-pub cell_taken-requires : goal.cell_taken-requires
-cell_taken-requires c = (c.requires.0, omega (arith, c.requires.1))
-
-pub returns-then-not-cell_taken : goal.returns-then-not-cell_taken
-returns-then-not-cell_taken c = search taken_stop
-
-pub overflow_step-j : goal.overflow_step-j
-overflow_step-j c = omega arith
-
-pub loop-j-smaller : goal.loop-j-smaller
-loop-j-smaller c = omega arith
-
-pub loop-j-preserved : goal.loop-j-preserved
-loop-j-preserved c = (omega arith, search taken_next)
-
 pub returns : goal.returns
-returns c = search taken_end
+returns c =
+    let n = c.args.n in
+    let taken = λ (i : ℕ). cell_taken c.args.g (view c.args.kinds.now []) (needed_at c.args.list.now i) in
+    all_of_range taken (λ i. taken i ≡ true) (λ i. taken i ≡ false) 0 n _ (λ i l h e. e) (λ i l h e. e)
+    (cases_from_all _ _ _ (λ i. taken i ≡ true) (λ i. taken i ≡ false) c.all.ensures.ran (YieldsList-from_range 0 n n (search rules) (omega arith)) (λ x q k. search (rules, tests)) (λ x q k. search (rules, tests)))
+    ∙ taken_all c.args.g c.args.kinds.now c.args.list.now n 0

@@ -1,39 +1,28 @@
+use mathlib.Core.Path.{sym}
 use Rattle.policy.proofs.ReadPolicy.{policy_fits_read}
 use Rattle.needs.proofs.Needing.{file_refused, size_refused, list_refused, file_asked, list_few, file_needed}
-use borrow.Author.Rules.{rules}
-use Rattle.needs.proofs.need_file.Reads as reads
-use Rattle.needs.proofs.need_file.Lts as lts
-use Rattle.needs.proofs.list_refusal.Reads as list-refusal-reads
-use Rattle.needs.proofs.needed.Reads as needed-reads
-use Rattle.policy.proofs.read_policy.Reads as read-policy-reads
-use Rattle.questions.proofs.basis_of.Reads as basis-of-reads
-use Rattle.questions.proofs.size_refusal.Reads as size-refusal-reads
 use Rattle.needs.proofs.need_file.Goals as goal
 
--- src/lib.rt:117:9
-pub returns-then-refused-ne0 : goal.returns-then-refused-ne0
-returns-then-refused-ne0 c = search file_refused
+pub returns-in_err-p : goal.returns-in_err-p
+returns-in_err-p c = file_refused _ _ _ _ _ c.from_residual.ensures.1 c.in_err-p.ensures.refused
 
--- src/lib.rt:120:9
 pub basis_of-basis-requires : goal.basis_of-basis-requires
-basis_of-basis-requires c = search policy_fits_read
+basis_of-basis-requires c = policy_fits_read _ _ (sym c.in_ok-p.ensures.refused) c.in_ok-p.ensures.read
 
--- src/lib.rt:123:9
-pub returns-then-sized-ne0 : goal.returns-then-sized-ne0
-returns-then-sized-ne0 c = search size_refused
+pub returns-in_err-check_size : goal.returns-in_err-check_size
+returns-in_err-check_size c = size_refused _ _ _ _ c.in_ok-p.ensures.refused c.in_ok-p.ensures.read _ _ c.from_residual-in_err-check_size.ensures.1 (c.in_err-check_size.ensures _ c.basis_of-basis.ensures)
 
--- src/lib.rt:125:9
-pub list_refusal-listed-requires : goal.list_refusal-listed-requires
-list_refusal-listed-requires c = search policy_fits_read
+pub check_list-requires : goal.check_list-requires
+check_list-requires c = policy_fits_read _ _ (sym c.in_ok-p.ensures.refused) c.in_ok-p.ensures.read
 
--- src/lib.rt:127:9
-pub returns-then-listed-ne0 : goal.returns-then-listed-ne0
-returns-then-listed-ne0 c = search list_refused
+pub returns-in_err-check_list : goal.returns-in_err-check_list
+returns-in_err-check_list c =
+    list_refused _ _ _ _ c.in_ok-p.ensures.refused c.in_ok-p.ensures.read (c.in_ok-check_size.ensures _ c.basis_of-basis.ensures) _ _ c.from_residual-in_err-check_list.ensures.1 c.in_err-check_list.ensures
 
--- src/lib.rt:129:5
 pub needed-requires : goal.needed-requires
-needed-requires c = (search file_asked, search list_few, search rules)
+needed-requires c =
+    let asked = file_asked _ c.args.list.now _ c.in_ok-p.p c.in_ok-p.ensures.refused c.in_ok-p.ensures.read (c.in_ok-check_size.ensures _ c.basis_of-basis.ensures) c.in_ok-check_list.ensures in
+    (asked, list_few c.in_ok-p.p _ c.in_ok-check_list.ensures, c.basis_of-basis.ensures)
 
--- src/lib.rt:111:1
 pub returns : goal.returns
-returns c = search file_needed
+returns c = file_needed _ _ _ _ c.in_ok-p.ensures.refused c.in_ok-p.ensures.read (c.in_ok-check_size.ensures _ c.basis_of-basis.ensures) c.in_ok-check_list.ensures _ _ c.needed.ensures

@@ -29,9 +29,6 @@ name_of-requires-in-CreateObject c = search applied
 pub name_of-requires-in-DestroySubject : goal.name_of-requires-in-DestroySubject
 name_of-requires-in-DestroySubject c = search applied
 
-pub name_of-requires-in-DestroyObject : goal.name_of-requires-in-DestroyObject
-name_of-requires-in-DestroyObject c = search applied
-
 pub returns-in-Enter : goal.returns-in-Enter
 returns-in-Enter c = search did
 
@@ -46,6 +43,3 @@ returns-in-CreateObject c = search did
 
 pub returns-in-DestroySubject : goal.returns-in-DestroySubject
 returns-in-DestroySubject c = search did
-
-pub returns-in-DestroyObject : goal.returns-in-DestroyObject
-returns-in-DestroyObject c = search did

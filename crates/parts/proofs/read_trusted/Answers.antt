@@ -1,41 +1,16 @@
-use Prim.Native.Nat.{◌-◌}
-use mathlib.Core.Path.{◌≡◌}
-use mathlib.Core.List.{[]}
-use lib.ListN.{length}
-use Rattle.matrix.specs.Bytes.{view}
-use Rattle.parts.proofs.Lists.{Reading, reading_start, reading_refused, reading_small, reading_next, reading_end}
-use borrow.Author.Rules.{rules}
+use mathlib.Core.Path.{refl}
 use native.Mathlib.Omega.{arith}
-use Rattle.parts.proofs.read_trusted.Reads as reads
-use Rattle.parts.proofs.read_trusted.Lts as lts
-use Rattle.parts.proofs.can_leave.Reads as can-leave-reads
-use Rattle.parts.proofs.with_name.Reads as with-name-reads
+use Rattle.parts.proofs.Lists.{reading_start, reading_refused, reading_next, reading_end}
 use Rattle.parts.proofs.read_trusted.Goals as goal
 
--- src/lib.rt:48:5
-pub loop-i-init : goal.loop-i-init
-loop-i-init c = (search rules, search reading_start)
+pub loop-x-init : goal.loop-x-init
+loop-x-init c = search reading_start
 
--- src/lib.rt:51:13
-pub returns-then-not-can_leave : goal.returns-then-not-can_leave
-returns-then-not-can_leave c = search reading_refused
+pub returns-then-not-can_leave-clause-refused : goal.returns-then-not-can_leave-clause-refused
+returns-then-not-can_leave-clause-refused c = reading_refused _ _ _ _ c.loop-x.invariant (omega arith) _ refl _ c.can_leave.ensures c.if-not-can_leave.true
 
--- src/lib.rt:56:9
-pub with_name-mask-requires : goal.with_name-mask-requires
-with_name-mask-requires c = search reading_small
+pub loop-x-preserved : goal.loop-x-preserved
+loop-x-preserved c = reading_next _ _ _ _ c.loop-x.invariant (omega arith) _ refl _ c.can_leave.ensures c.if-not-can_leave.false _ c.with_name-mask.ensures
 
--- src/lib.rt:48:9
-pub overflow_step-i : goal.overflow_step-i
-overflow_step-i c = omega arith
-
--- src/lib.rt:48:5
-pub loop-i-smaller : goal.loop-i-smaller
-loop-i-smaller c = omega arith
-
--- src/lib.rt:48:5
-pub loop-i-preserved : goal.loop-i-preserved
-loop-i-preserved c = (search rules, search reading_next)
-
--- src/lib.rt:44:1
-pub returns : goal.returns
-returns c = search reading_end
+pub returns-clause-refused : goal.returns-clause-refused
+returns-clause-refused c = reading_end _ _ _ _ c.loop-x.invariant (omega arith)

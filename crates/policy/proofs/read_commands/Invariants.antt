@@ -1,11 +1,7 @@
 use Prim.Native.Nat.{◌≤◌, ◌-◌}
 use mathlib.Core.Path.{◌≡◌}
-use native.Mathlib.Nat.{sub-zero}
 use Rattle.policy.specs.Refusals.{commands_refusal}
 use Rattle.policy.specs.Contents.{command_table}
-use Rattle.policy.proofs.Policies.{table_start, commands_stop, commands_more, table_more, commands_end}
-use borrow.Author.Rules.{rules}
-use native.Mathlib.Omega.{arith}
 use Rattle.policy.proofs.read_commands.Given as goal
 
 abbrev pub invariant-loop-i : goal.invariant-loop-i

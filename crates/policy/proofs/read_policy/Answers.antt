@@ -1,68 +1,45 @@
 use mathlib.Core.Path.{refl}
-use Rattle.policy.proofs.Policies.{header_fits, header_stops, pairs_stop, sizes_stop, matrix_inside, matrix_stops, carries_inside, carries_stop, commands_inside, commands_stop_all, all_read}
-use native.Mathlib.Omega.{arith}
-use borrow.Author.Rules.{rules}
+use Rattle.refusals.proofs.Codes.{number_above, code_handed}
+use Rattle.policy.specs.Refusals.{refusal}
+use Rattle.policy.proofs.Policies.{or_stop, or_next, matrix_inside, carries_inside, commands_inside, matrix_refuses, carries_refuse, all_read}
 use Rattle.policy.proofs.read_policy.Goals as goal
 
-pub returns-then-header-ne0 : goal.returns-then-header-ne0
-returns-then-header-ne0 c = search header_stops
+pub returns-in_err-check_header-clause-refused : goal.returns-in_err-check_header-clause-refused
+unfolding refusal
+returns-in_err-check_header-clause-refused c = code_handed _ _ _ c.from_residual.ensures.1 (search (or_stop, or_next, number_above, c.in_err-check_header.ensures))
 
-pub bounds-file-0 : goal.bounds-file-0
-bounds-file-0 c = let k = header_fits _ _ c.header_refusal-header.ensures c.if-header-ne0.false in omega arith
+pub returns-in_err-check_pairs-clause-refused : goal.returns-in_err-check_pairs-clause-refused
+unfolding refusal
+returns-in_err-check_pairs-clause-refused c = code_handed _ _ _ c.from_residual-in_err-check_pairs.ensures.1 (search (or_stop, or_next, number_above, c.in_ok-check_header.ensures, c.in_err-check_pairs.ensures))
 
-pub bounds-file-1 : goal.bounds-file-1
-bounds-file-1 c = let k = header_fits _ _ c.header_refusal-header.ensures c.if-header-ne0.false in omega arith
-
-pub overflow_cast-n : goal.overflow_cast-n
-overflow_cast-n c = omega (arith, c.type_inv.file 1)
-
-pub pairs_refusal-table-requires : goal.pairs_refusal-table-requires
-pairs_refusal-table-requires c = let k = header_fits _ _ c.header_refusal-header.ensures c.if-header-ne0.false in (refl, k.table)
-
-pub returns-then-table-ne0 : goal.returns-then-table-ne0
-returns-then-table-ne0 c = search pairs_stop
-
-pub sizes_refusal-sizes-requires : goal.sizes_refusal-sizes-requires
-sizes_refusal-sizes-requires c = let k = header_fits _ _ c.header_refusal-header.ensures c.if-header-ne0.false in (refl, omega arith)
-
-pub returns-then-sizes-ne0 : goal.returns-then-sizes-ne0
-returns-then-sizes-ne0 c = search sizes_stop
+pub returns-in_err-check_sizes-clause-refused : goal.returns-in_err-check_sizes-clause-refused
+unfolding refusal
+returns-in_err-check_sizes-clause-refused c = code_handed _ _ _ c.from_residual-in_err-check_sizes.ensures.1 (search (or_stop, or_next, number_above, c.in_ok-check_header.ensures, c.in_ok-check_pairs.ensures, c.in_err-check_sizes.ensures))
 
 pub matrix_of-matrix-requires : goal.matrix_of-matrix-requires
-matrix_of-matrix-requires c = search matrix_inside
+matrix_of-matrix-requires c = matrix_inside _ c.in_ok-check_header.ensures c.in_ok-check_pairs.ensures c.in_ok-check_sizes.ensures
 
-pub matrix_refusal-cells-requires : goal.matrix_refusal-cells-requires
-matrix_refusal-cells-requires c = let k = header_fits _ _ c.header_refusal-header.ensures c.if-header-ne0.false in omega arith
-
-pub returns-then-cells-ne0 : goal.returns-then-cells-ne0
-returns-then-cells-ne0 c = search matrix_stops
+pub returns-in_err-check-clause-refused : goal.returns-in_err-check-clause-refused
+unfolding refusal
+returns-in_err-check-clause-refused c = code_handed _ _ _ c.from_residual-in_err-check.ensures.1 (search (or_stop, or_next, number_above, c.in_ok-check_header.ensures, c.in_ok-check_pairs.ensures, c.in_ok-check_sizes.ensures, matrix_refuses, c.matrix_of-matrix.ensures, c.in_err-check.ensures))
 
 pub carries_of-carries-requires : goal.carries_of-carries-requires
-carries_of-carries-requires c = carries_inside _ _ c.header_refusal-header.ensures c.if-header-ne0.false _ c.pairs_refusal-table.ensures c.if-table-ne0.false _ c.sizes_refusal-sizes.ensures c.if-sizes-ne0.false
+carries_of-carries-requires c = carries_inside _ c.in_ok-check_header.ensures c.in_ok-check_pairs.ensures c.in_ok-check_sizes.ensures
 
-pub refusal-beyond-requires : goal.refusal-beyond-requires
-refusal-beyond-requires c = let k = header_fits _ _ c.header_refusal-header.ensures c.if-header-ne0.false in omega arith
+pub returns-in_err-check-2-clause-refused : goal.returns-in_err-check-2-clause-refused
+unfolding refusal
+returns-in_err-check-2-clause-refused c = code_handed _ _ _ c.from_residual-in_err-check-2.ensures.1 (search (or_stop, or_next, number_above, c.in_ok-check_header.ensures, c.in_ok-check_pairs.ensures, c.in_ok-check_sizes.ensures, matrix_refuses, c.matrix_of-matrix.ensures, c.in_ok-check.ensures, carries_refuse, c.carries_of-carries.ensures, c.in_err-check-2.ensures) depth 12)
 
-pub returns-then-beyond-ne0 : goal.returns-then-beyond-ne0
-returns-then-beyond-ne0 c = carries_stop _ _ c.header_refusal-header.ensures c.if-header-ne0.false _ c.pairs_refusal-table.ensures c.if-table-ne0.false _ c.sizes_refusal-sizes.ensures c.if-sizes-ne0.false _ _ c.matrix_of-matrix.ensures c.matrix_refusal-cells.ensures c.if-cells-ne0.false _ _ c.carries_of-carries.ensures c.refusal-beyond.ensures _ c.if-beyond-ne0.true c.refused_with-then-beyond-ne0.ensures
+pub read_commands-requires : goal.read_commands-requires
+read_commands-requires c = (refl, commands_inside _ c.in_ok-check_header.ensures c.in_ok-check_pairs.ensures c.in_ok-check_sizes.ensures)
 
-pub overflow_sub-n : goal.overflow_sub-n
-overflow_sub-n c = let k = header_fits _ _ c.header_refusal-header.ensures c.if-header-ne0.false in omega arith
+pub returns-in_err-command-clause-refused : goal.returns-in_err-command-clause-refused
+unfolding refusal
+returns-in_err-command-clause-refused c = code_handed _ _ _ c.from_residual-in_err-command.ensures.1 (search (or_next, c.in_ok-check_header.ensures, c.in_ok-check_pairs.ensures, c.in_ok-check_sizes.ensures, matrix_refuses, c.matrix_of-matrix.ensures, c.in_ok-check.ensures, carries_refuse, c.carries_of-carries.ensures, c.in_ok-check-2.ensures, c.in_err-command.ensures.refused) depth 12)
 
-pub read_commands-commands-requires : goal.read_commands-commands-requires
-read_commands-commands-requires c = (refl, commands_inside _ _ c.header_refusal-header.ensures c.if-header-ne0.false _ c.pairs_refusal-table.ensures c.if-table-ne0.false _ c.sizes_refusal-sizes.ensures c.if-sizes-ne0.false)
+pub returns-clause-refused : goal.returns-clause-refused
+unfolding refusal
+returns-clause-refused c = search (or_next, c.in_ok-check_header.ensures, c.in_ok-check_pairs.ensures, c.in_ok-check_sizes.ensures, matrix_refuses, c.matrix_of-matrix.ensures, c.in_ok-check.ensures, carries_refuse, c.carries_of-carries.ensures, c.in_ok-check-2.ensures, c.in_ok-command.ensures.refused) depth 12
 
-pub returns-then-refused-ne0 : goal.returns-then-refused-ne0
-returns-then-refused-ne0 c = commands_stop_all _ _ c.header_refusal-header.ensures c.if-header-ne0.false _ c.pairs_refusal-table.ensures c.if-table-ne0.false _ c.sizes_refusal-sizes.ensures c.if-sizes-ne0.false _ _ c.matrix_of-matrix.ensures c.matrix_refusal-cells.ensures c.if-cells-ne0.false _ _ c.carries_of-carries.ensures c.refusal-beyond.ensures c.if-beyond-ne0.false _ c.read_commands-commands.ensures _ c.if-refused-ne0.true c.refused_with-then-refused-ne0.ensures
-
-pub carried-carried-requires : goal.carried-carried-requires
-carried-carried-requires c = let k = header_fits _ _ c.header_refusal-header.ensures c.if-header-ne0.false in omega arith
-
-pub overflow_sub-result : goal.overflow_sub-result
-overflow_sub-result c = let k = header_fits _ _ c.header_refusal-header.ensures c.if-header-ne0.false in omega arith
-
-pub overflow_cast-result : goal.overflow_cast-result
-overflow_cast-result c = let k = header_fits _ _ c.header_refusal-header.ensures c.if-header-ne0.false in omega arith
-
-pub returns : goal.returns
-returns c = all_read _ _ c.header_refusal-header.ensures c.if-header-ne0.false _ c.pairs_refusal-table.ensures c.if-table-ne0.false _ c.sizes_refusal-sizes.ensures c.if-sizes-ne0.false _ _ c.matrix_of-matrix.ensures c.matrix_refusal-cells.ensures c.if-cells-ne0.false _ _ c.carries_of-carries.ensures c.refusal-beyond.ensures c.if-beyond-ne0.false _ c.read_commands-commands.ensures c.if-refused-ne0.false _ _ c.carried-carried.ensures c.carriers-carriers.ensures
+pub returns-clause-read : goal.returns-clause-read
+returns-clause-read c = all_read _ _ _ _ _ _ c.matrix_of-matrix.ensures c.carries_of-carries.ensures c.carried-carried.ensures c.carriers-carriers.ensures c.in_ok-command.ensures.read

@@ -1,7 +1,7 @@
 use Rattle.std.proofs.Common.{List, ℕ, ◌≡◌, ◌*◌, ◌≤◌, ◌∙◌, length, sym, ap, subst, arith}
 use Rattle.sheets.specs.declared.Entry.{Entry}
 use Rattle.sheets.specs.Sheets.{part_length, answers, parts_filled}
-use Rattle.sheets.proofs.Filling.{filling_start, filling_on, filling_end, part_inside}
+use Rattle.sheets.proofs.Filling.{filling_on, filling_end, part_inside}
 use Rattle.sheets.proofs.Promise.{parts_fit, sheet_refused, sheet_answered}
 use Rattle.sheets.proofs.sheet_file.Goals as goal
 
@@ -15,19 +15,16 @@ room s b k e = subst (λ (n : ℕ). length s * n ≤ length b) (sym e) (parts_fi
 pub returns-then-n-gt-SHEET : goal.returns-then-n-gt-SHEET
 returns-then-n-gt-SHEET c = sheet_refused _ _ _ c.if-n-gt-SHEET.true
 
-pub loop-i-init : goal.loop-i-init
-loop-i-init c = (omega arith, filling_start _ _ _ _)
-
-pub ask-entry-requires : goal.ask-entry-requires
-ask-entry-requires c = ((c.args.file.now, c.prepare_file-prepared.ensures), part_inside _ _ _ _ _ _ _ c.loop-i.invariant.1 blank (omega arith) (room _ _ _ c.part_length-part.ensures))
+pub ask-requires : goal.ask-requires
+ask-requires c = ((c.args.file.now, c.prepare_file-prepared.ensures), part_inside _ _ _ _ _ _ _ c.loop-i.invariant blank (omega arith) (room _ _ _ c.part_length-part.ensures))
 
 pub loop-i-preserved : goal.loop-i-preserved
 loop-i-preserved c =
-    let said = c.ask-entry.ensures c.args.file.now c.prepare_file-prepared.ensures in
-    (omega arith, filling_on _ _ _ _ _ _ _ c.loop-i.invariant.1 blank (omega arith) (room _ _ _ c.part_length-part.ensures) _ _ said.0 said.1 c.ask-entry.auto.buffer)
+    let said = c.ask.ensures c.args.file.now c.prepare_file-prepared.ensures in
+    filling_on _ _ _ _ _ _ _ c.loop-i.invariant blank (omega arith) (room _ _ _ c.part_length-part.ensures) _ _ said.0 said.1 c.ask.auto.buffer
 
 pub returns : goal.returns
 returns c =
-    let last = filling_end _ _ _ _ _ _ _ c.loop-i.invariant.1 (omega arith) (omega arith) in
+    let last = filling_end _ _ _ _ _ _ _ c.loop-i.invariant (omega arith) (omega arith) in
     let k = c.part_length-part.ensures in
     sheet_answered _ _ _ c.if-n-gt-SHEET.false _ _ (last.0 ∙ ap (λ (n : ℕ). answers c.args.file.now n c.args.sheet.now) k) (last.1 ∙ ap (λ (n : ℕ). parts_filled c.args.file.now n c.args.sheet.now c.args.buffer.now) k)

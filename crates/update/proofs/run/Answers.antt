@@ -1,25 +1,19 @@
 use Rattle.policy.proofs.ReadPolicy.{policy_fits_read, matrix_canonical, matrix_inside}
-use Rattle.update.proofs.Stored.{run_bad_file, run-refused, run_quiet, run_leaked}
-use borrow.Author.Rules.{rules}
+use Rattle.update.proofs.Stored.{run_bad_file, run-refused, run-done}
+use mathlib.Core.Path.{sym}
 use Rattle.update.proofs.run.Goals as goal
 
-pub returns-then-refused-ne0 : goal.returns-then-refused-ne0
-returns-then-refused-ne0 c = search run_bad_file
+pub returns-in_err-p : goal.returns-in_err-p
+returns-in_err-p c = run_bad_file _ _ _ _ c.in_err-p.ensures.refused c.from_residual.ensures.1
 
-pub execute-executed-requires : goal.execute-executed-requires
-execute-executed-requires c = (policy_fits_read _ _ c.read_policy-read.ensures c.if-refused-ne0.false, matrix_canonical _ _ c.read_policy-read.ensures c.if-refused-ne0.false)
+pub call-requires : goal.call-requires
+call-requires c = (policy_fits_read _ _ (sym c.in_ok-p.ensures.refused) c.in_ok-p.ensures.read, matrix_canonical _ _ (sym c.in_ok-p.ensures.refused) c.in_ok-p.ensures.read)
 
 pub store-requires : goal.store-requires
-store-requires c = (matrix_inside _ _ c.read_policy-read.ensures c.if-refused-ne0.false, c.execute-executed.ensures.canonical)
+store-requires c = (matrix_inside _ _ (sym c.in_ok-p.ensures.refused) c.in_ok-p.ensures.read, c.call.ensures.canonical)
 
-pub store-requires-in-Leaked : goal.store-requires-in-Leaked
-store-requires-in-Leaked c = (matrix_inside _ _ c.read_policy-read.ensures c.if-refused-ne0.false, c.execute-executed.ensures.canonical)
+pub returns-in_err-call : goal.returns-in_err-call
+returns-in_err-call c = run-refused _ _ (sym c.in_ok-p.ensures.refused) c.in_ok-p.ensures.read _ _ _ _ c.in_err-call.ensures c.from_residual-in_err-call.ensures.1
 
-pub returns-in-Refused : goal.returns-in-Refused
-returns-in-Refused c = search run-refused
-
-pub returns-in-Done : goal.returns-in-Done
-returns-in-Done c = search run_quiet
-
-pub returns-in-Leaked : goal.returns-in-Leaked
-returns-in-Leaked c = search run_leaked
+pub returns : goal.returns
+returns c = run-done _ _ (sym c.in_ok-p.ensures.refused) c.in_ok-p.ensures.read _ _ _ _ c.in_ok-call.ensures c.store.ensures

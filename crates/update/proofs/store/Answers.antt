@@ -1,5 +1,4 @@
 use Rattle.update.proofs.Stored.{store_is}
-use borrow.Author.Rules.{rules}
 use Rattle.update.proofs.store.Goals as goal
 
 pub returns : goal.returns

@@ -1,5 +1,4 @@
 use Rattle.update.proofs.Stored.{stored}
-use borrow.Author.Rules.{rules}
 use Rattle.update.proofs.store_at.Goals as goal
 
 pub returns : goal.returns

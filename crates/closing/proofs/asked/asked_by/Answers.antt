@@ -1,28 +1,14 @@
-use Rattle.closing.proofs.AskMarks.{Asking, asking_start, asking_length, asking_fits, asking_number, asking_more, asking_end}
-use Prim.Native.Nat.{◌-◌}
-use borrow.Author.Rules.{rules}
-use native.Mathlib.Omega.{arith}
-use Rattle.closing.proofs.asked.asked_by.Reads as reads
-use Rattle.closing.proofs.asked.asked_by.Lts as lts
-use Rattle.closing.proofs.asked.mark_asks.Reads as mark-asks-reads
+use Rattle.closing.proofs.AskMarks.{asking_start, asking_length, asking_fits, asking_number, asking_more, asking_end}
 use Rattle.closing.proofs.asked.asked_by.Goals as goal
 
--- src/asked.rt:67:5
 pub loop-i-init : goal.loop-i-init
 loop-i-init c = search asking_start
 
--- src/asked.rt:69:9
 pub mark_asks-requires : goal.mark_asks-requires
 mark_asks-requires c = (search asking_length, search asking_fits, search asking_number)
 
--- src/asked.rt:67:5
-pub loop-i-smaller : goal.loop-i-smaller
-loop-i-smaller c = omega arith
-
--- src/asked.rt:67:5
 pub loop-i-preserved : goal.loop-i-preserved
 loop-i-preserved c = search asking_more
 
--- src/asked.rt:61:1
 pub returns : goal.returns
 returns c = search asking_end

@@ -1,14 +1,5 @@
-use Rattle.closing.proofs.AskMarks.{Asking, asking_start, asking_length, asking_fits, asking_number, asking_more, asking_end}
-use Prim.Native.Nat.{◌-◌}
-use borrow.Author.Rules.{rules}
-use native.Mathlib.Omega.{arith}
-use Rattle.closing.proofs.asked.asked_by.Reads as reads
-use Rattle.closing.proofs.asked.asked_by.Lts as lts
-use Rattle.closing.proofs.asked.mark_asks.Reads as mark-asks-reads
+use Rattle.closing.proofs.AskMarks.{Asking}
 use Rattle.closing.proofs.asked.asked_by.Given as goal
 
 abbrev pub invariant-loop-i : goal.invariant-loop-i
-invariant-loop-i l = Asking l.p l.count l.i l.asks
-
-abbrev pub decreases-loop-i : goal.decreases-loop-i
-decreases-loop-i l = l.count - l.i
+invariant-loop-i l = Asking l.p l.i l.asks

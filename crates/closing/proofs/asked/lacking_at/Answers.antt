@@ -1,5 +1,4 @@
 use Rattle.closing.proofs.Lacking.{cell_lacking, row_lacking, column_lacking, turned_lacking}
-use borrow.Author.Rules.{rules}
 use Rattle.closing.proofs.asked.lacking_at.Goals as goal
 
 pub returns-then-left-eq0 : goal.returns-then-left-eq0

@@ -1,23 +1,10 @@
-use Rattle.protection.specs.Limits.{rights}
 use Rattle.closing.proofs.Lacking.{lacking_start, lacking_more, lacking_same}
-use Prim.Native.Nat.{◌-◌, ◌≤◌}
-use mathlib.Core.Logic.{⊎_elim}
-use Rattle.closing.specs.Asks.{LackingIn}
-use borrow.Author.Rules.{rules}
 use native.Mathlib.Omega.{arith}
-use Rattle.closing.proofs.asked.lacking_in.Reads as reads
-use Rattle.closing.proofs.asked.lacking_in.Lts as lts
 use Rattle.closing.proofs.asked.lacking_in.Goals as goal
 use Rattle.closing.proofs.asked.lacking_in.Goals.{else-set-carriers-eq0, then-set-carriers-eq0}
 
 pub loop-q-init : goal.loop-q-init
 loop-q-init c = (omega arith, search lacking_start)
-
-pub offset_bounds-carriers-q : goal.offset_bounds-carriers-q
-offset_bounds-carriers-q c = omega arith
-
-pub loop-q-smaller : goal.loop-q-smaller
-loop-q-smaller c = omega arith
 
 pub loop-q-preserved : goal.loop-q-preserved
 loop-q-preserved c = (omega arith, elim c.if-set-carriers-eq0.branch [ then-set-carriers-eq0 w ↦ search lacking_more | else-set-carriers-eq0 w ↦ search lacking_same ])

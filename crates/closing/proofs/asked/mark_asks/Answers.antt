@@ -1,42 +1,26 @@
 use mathlib.Core.Path.{refl}
-use Rattle.closing.proofs.AskMarks.{Marking, marking_start, marking_byte, marking_byte_1, marking_byte_2, marking_length, marking_right, marking_more, marking_end}
-use Prim.Native.Nat.{◌-◌}
+use Rattle.closing.proofs.AskMarks.{marking_start, marking_byte, marking_byte_1, marking_byte_2, marking_length, marking_right, marking_more, marking_end}
 use borrow.Author.Rules.{rules}
 use native.Mathlib.Omega.{arith}
-use Rattle.closing.proofs.asked.mark_asks.Reads as reads
-use Rattle.closing.proofs.asked.mark_asks.Lts as lts
-use Rattle.closing.proofs.asked.mark.Reads as mark-reads
-use Rattle.closing.proofs.asked.side.Reads as side-reads
 use Rattle.closing.proofs.asked.mark_asks.Goals as goal
 
--- src/asked.rt:53:5
 pub loop-j-init : goal.loop-j-init
 loop-j-init c = search marking_start
 
--- src/asked.rt:54:17
 pub bounds-c-j : goal.bounds-c-j
 bounds-c-j c = search marking_byte
 
--- src/asked.rt:55:22
 pub bounds-c-j-in-loop-j : goal.bounds-c-j-in-loop-j
 bounds-c-j-in-loop-j c = search marking_byte_1
 
--- src/asked.rt:56:22
 pub bounds-c-j-in-loop-j-2 : goal.bounds-c-j-in-loop-j-2
 bounds-c-j-in-loop-j-2 c = search marking_byte_2
 
--- src/asked.rt:57:9
 pub mark-requires : goal.mark-requires
 mark-requires c = (search marking_length, search rules, search marking_right)
 
--- src/asked.rt:53:5
-pub loop-j-smaller : goal.loop-j-smaller
-loop-j-smaller c = omega arith
-
--- src/asked.rt:53:5
 pub loop-j-preserved : goal.loop-j-preserved
 loop-j-preserved c = marking_more _ _ _ _ _ _ _ _ c.loop-j.invariant (omega arith) _ refl _ c.side-a.ensures _ c.side-b.ensures _ c.mark.ensures
 
--- src/asked.rt:46:1
 pub returns : goal.returns
 returns c = search marking_end

@@ -1,6 +1,5 @@
 use Rattle.commands.proofs.Reading.{read_is}
-use borrow.Author.Rules.{rules}
 use Rattle.commands.proofs.Command.step_at.Goals as goal
 
 pub returns : goal.returns
-returns c = read_is _ _ _ _ _ _ _ c.read_step.ensures
+returns c = search read_is

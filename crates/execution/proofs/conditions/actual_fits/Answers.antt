@@ -1,5 +1,4 @@
 use Rattle.execution.proofs.Asked.{fits_unused, fits_name, fits_spare}
-use borrow.Author.Rules.{rules}
 use Rattle.execution.proofs.conditions.actual_fits.Goals as goal
 
 pub returns-then-c-b : goal.returns-then-c-b

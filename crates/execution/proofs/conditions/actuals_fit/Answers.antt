@@ -1,29 +1,16 @@
-use Prim.Native.Nat.{◌≤◌, ◌-◌}
-use mathlib.Core.Path.{◌≡◌, refl}
-use native.Mathlib.Nat.{sub-zero}
-use Rattle.cases.specs.Cases.{all}
-use Rattle.cases.proofs.Loops.{all_stop, all_more, all_end}
+use mathlib.Core.Path.{◌≡◌}
+use mathlib.Core.Bool.{true, false}
+use native.Mathlib.Omega.{arith}
+use Rattle.std.proofs.Common.{rules, tests}
+use Rattle.std.proofs.lemmas.Iterator.{cases_from_all, YieldsList-from_range}
+use Rattle.cases.proofs.Slices.{all_of_range}
 use Rattle.protection.specs.Command.{values_of}
 use Rattle.protection.specs.Execution.{bounded, actual_fits}
 use Rattle.commands.specs.Contents.{meaning}
-use borrow.Author.Rules.{rules}
-use native.Mathlib.Omega.{arith}
 use Rattle.execution.proofs.conditions.actuals_fit.Goals as goal
 
-pub loop-b-init : goal.loop-b-init
-loop-b-init c = (omega arith, rw sub-zero)
-
-pub returns-then-not-actual_fits : goal.returns-then-not-actual_fits
-returns-then-not-actual_fits c = search all_stop
-
-pub overflow_step-b : goal.overflow_step-b
-overflow_step-b c = omega arith
-
-pub loop-b-smaller : goal.loop-b-smaller
-loop-b-smaller c = omega arith
-
-pub loop-b-preserved : goal.loop-b-preserved
-loop-b-preserved c = (omega arith, search all_more)
-
 pub returns : goal.returns
-returns c = search all_end
+returns c =
+    let fits = actual_fits bounded (meaning c.args.c) (values_of c.args.a) in
+    all_of_range fits (λ b. fits b ≡ true) (λ b. fits b ≡ false) 0 4 _ (λ b l h t. t) (λ b l h t. t)
+    (cases_from_all _ _ _ (λ b. fits b ≡ true) (λ b. fits b ≡ false) c.all.ensures.ran (YieldsList-from_range 0 4 4 (search rules) (omega arith)) (λ x q k. search (rules, tests)) (λ x q k. search (rules, tests)))

@@ -1,28 +1,15 @@
-use Prim.Native.Nat.{◌-◌}
-use Rattle.execution.proofs.Asked.{Asking, asking_start, asking_stop, asking_more, asking_end}
-use native.Mathlib.Omega.{arith}
+use mathlib.Core.Bool.{Bool, true, false}
+use Prim.Native.Nat.{ℕ}
+use native.Mathlib.Nat.{sub-zero}
+use Rattle.std.proofs.Common.{rules, tests}
+use Rattle.std.proofs.lemmas.Iterator.{cases_from_all, YieldsList-from_range}
+use Rattle.execution.specs.Conditions.{HeldBy}
+use Rattle.execution.proofs.Asked.{held_each}
 use Rattle.execution.proofs.conditions.conditions_hold.Goals as goal
 
-pub overflow_cast-n : goal.overflow_cast-n
-overflow_cast-n c = omega arith
-
-pub loop-j-init : goal.loop-j-init
-loop-j-init c = search asking_start
-
-pub condition_holds-requires : goal.condition_holds-requires
-condition_holds-requires c = c.requires.all c.loop-j.j (omega arith)
-
-pub returns-then-not-condition_holds : goal.returns-then-not-condition_holds
-returns-then-not-condition_holds c = search asking_stop
-
-pub overflow_step-j : goal.overflow_step-j
-overflow_step-j c = omega arith
-
-pub loop-j-smaller : goal.loop-j-smaller
-loop-j-smaller c = omega arith
-
-pub loop-j-preserved : goal.loop-j-preserved
-loop-j-preserved c = search asking_more
-
 pub returns : goal.returns
-returns c = search asking_end
+returns c =
+    let n = c.args.c.conditions in
+    let Held = λ (j : ℕ) (r : Bool). HeldBy c.args.matrix.now.kinds c.args.matrix.now.cells c.args.carriers.now c.args.a c.args.c j r in
+    held_each _ _ _ _ _ _
+    (cases_from_all _ _ _ (λ j. Held j true) (λ j. Held j false) c.all.ensures.ran (YieldsList-from_range 0 n n (search rules) (sub-zero n)) (λ x q b. search (rules, tests)) (λ x q b. search (rules, tests)))

@@ -1,5 +1,4 @@
 use Rattle.goals.proofs.Lists.{held_copied}
-use borrow.Author.Rules.{rules}
 use Rattle.goals.proofs.Goal.held.Goals as goal
 
 pub returns : goal.returns
