@@ -58,7 +58,9 @@ fn matrix_of(file: &[u8]) -> Matrix
 {
     let mut matrix = Matrix::empty();
     matrix.kinds.copy_from_slice(section(file, 0));
-    rights::bytes::read_sets(section(file, 1), &mut matrix.cells);
+    // a length that the compiler knows, so that the bytes are copied at once
+    let cells = &section(file, 1)[..rights::bytes::SIZE * (Matrix::NAMES * Matrix::NAMES)];
+    rights::bytes::read_sets(cells, &mut matrix.cells);
     matrix
 }
 
