@@ -81,8 +81,8 @@ extern "C" {
 #define TUGCAPHI_BUFFER (TUGCAPHI_STEP * (TUGCAPHI_RIGHTS * 31 * 32 + 4))
 
 /*
- * Bytes of stack that are enough for each call. This is measured and not proved: access_check used about 14,500 bytes, access_run
- * 16,600, access_replay 16,600, access_judge 63,100, access_judge_part 55,700, access_sheet 61,100, access_need 56,300. Each ran in
+ * Bytes of stack that are enough for each call. This is measured and not proved: access_check used about 12,400 bytes, access_run
+ * 14,600, access_replay 14,600, access_judge 63,100, access_judge_part 55,700, access_sheet 61,100, access_need 56,300. Each ran in
  * a thread whose stack of 1 MiB was painted with a pattern before, and what had lost its paint afterwards was counted, less what
  * an idle thread uses; on 60 generated files, for all rights, access_judge_part with none, some and all of
  * the names listed, access_sheet with 0, 1 and 8 entries, access_need with lists of 0, 1 and 8 cells. The files made no

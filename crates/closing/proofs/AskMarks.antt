@@ -26,13 +26,13 @@ use Rattle.policy.specs.declared.Policy.{Policy}
 use Rattle.closing.specs.Asks.{side_of, on_side, first_of, second_of, Asks, AsksMarked, AskedBy}
 
 -- ---- the side that a parameter is on
-side_first : (x y b : ℕ) → b ≡ x → 0 ≡ side_of x y b
+pub side_first : (x y b : ℕ) → b ≡ x → 0 ≡ side_of x y b
 side_first x y b e = rw (eq-eqb b x e)
 
-side_second : (x y b : ℕ) → (b ≡ x → ⊥) → b ≡ y → 1 ≡ side_of x y b
+pub side_second : (x y b : ℕ) → (b ≡ x → ⊥) → b ≡ y → 1 ≡ side_of x y b
 side_second x y b n e = let u = ne_eqb b x n in let v = eq-eqb b y e in rw (u, v)
 
-side_neither : (x y b : ℕ) → (b ≡ x → ⊥) → (b ≡ y → ⊥) → 2 ≡ side_of x y b
+pub side_neither : (x y b : ℕ) → (b ≡ x → ⊥) → (b ≡ y → ⊥) → 2 ≡ side_of x y b
 side_neither x y b n e = let u = ne_eqb b x n in let v = ne_eqb b y e in rw (u, v)
 
 side_is : (x y b a : ℕ) → a ≡ side_of x y b → a < 2 → b ≡ on_side a x y
@@ -51,10 +51,10 @@ module _ (l : List ℕ) (i q a b : ℕ) where
   pub mark_both : a < 2 → b < 2 → i < commands → set l (rights * (2 * a + b) + q) (bit_or (get_or l (rights * (2 * a + b) + q) 0) ((1 * 2 ^ i) % 2 ^ 32)) ≡ on (ltb a 2) (ltb b 2)
   mark_both la lb li = mark_is l (rights * (2 * a + b) + q) i li ∙ ap₂ on (sym (lt-ltb a 2 la)) (sym (lt-ltb b 2 lb))
 
-  mark_first : a < 2 → 2 ≤ b → l ≡ on (ltb a 2) (ltb b 2)
+  pub mark_first : a < 2 → 2 ≤ b → l ≡ on (ltb a 2) (ltb b 2)
   mark_first la lb = ap₂ on (sym (lt-ltb a 2 la)) (sym (le-ltb b 2 lb))
 
-  mark_neither : 2 ≤ a → l ≡ on (ltb a 2) (ltb b 2)
+  pub mark_neither : 2 ≤ a → l ≡ on (ltb a 2) (ltb b 2)
   mark_neither la = ap (λ (u : Bool). on u (ltb b 2)) (sym (le-ltb a 2 la))
 
   pub mark_none : (a < 2 × 2 ≤ b) ⊎ (2 ≤ a) → l ≡ on (ltb a 2) (ltb b 2)

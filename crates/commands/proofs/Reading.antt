@@ -4,7 +4,7 @@ use mathlib.Core.Path.{◌≡◌, refl, sym, ap, ap₂, ◌∙◌, subst}
 use mathlib.Core.Bool.{Bool, true, false, ◌&&◌}
 use mathlib.Core.List.{List, [], ◌∷◌, ◌++◌}
 use Rattle.std.specs.Prelude.{Option, Some, None, is_some}
-use mathlib.Core.Logic.{◌⊎◌, inl, inr}
+use mathlib.Core.Logic.{◌⊎◌, inl, inr, ⊎_elim}
 use native.Mathlib.Omega.{arith}
 use native.Mathlib.Decide.{dec_lt, ℕ_discrete}
 use native.Mathlib.Numerals.{add-one}
@@ -61,6 +61,34 @@ module _ (k g kind q x y : ℕ) (r : StepRead) where
       other : (kind ≡ 1 → ⊥) → (kind ≡ 2 → ⊥) → (kind ≡ 3 → ⊥) → (kind ≡ 4 → ⊥) → (kind ≡ 5 → ⊥) → (kind ≡ 6 → ⊥) → Dec (kind < 1) → (kind < 1) ⊎ (6 < kind)
       other n1 n2 n3 n4 n5 n6 (yes l) = inl l
       other n1 n2 n3 n4 n5 n6 (no l) = inr (omega arith)
+
+  -- and from `step_read` the seven lines follow
+  pub answers : r ≡ step_read k g kind q x y → Answered
+  unfolding step_read
+  answers e =
+      record {
+        enter = at 1;
+        delete = at 2;
+        create_subject = at 3;
+        create_object = at 4;
+        destroy_subject = at 5;
+        destroy_object = at 6;
+        any_other = λ h. e ∙ ⊎_elim (λ l. none (λ n a b z. omega arith)) (λ l. none (λ n a b z. omega arith)) h;
+      }
+    where
+      at : (n : ℕ) → kind ≡ n → r ≡ step_read k g n q x y
+      at n z = e ∙ ap (λ (i : ℕ). step_read k g i q x y) z
+
+      none : ((n : ℕ) → 1 ≤ n → n ≤ 6 → kind ≡ n → ⊥) → step_read k g kind q x y ≡ Refused
+      none f =
+          rw (
+            ne_eqb kind 1 (f 1 (omega arith) (omega arith)),
+            ne_eqb kind 2 (f 2 (omega arith) (omega arith)),
+            ne_eqb kind 3 (f 3 (omega arith) (omega arith)),
+            ne_eqb kind 4 (f 4 (omega arith) (omega arith)),
+            ne_eqb kind 5 (f 5 (omega arith) (omega arith)),
+            ne_eqb kind 6 (f 6 (omega arith) (omega arith)),
+          )
 
 -- ---- whether a step is read
 -- an answer with an operation is a step that is read

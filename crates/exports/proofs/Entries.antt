@@ -27,7 +27,7 @@ pub eight_of : (f : ℕ → Entry) (q₀ q₁ q₂ q₃ q₄ q₅ q₆ q₇ : En
 eight_of f q₀ q₁ q₂ q₃ q₄ q₅ q₆ q₇ e₀ e₁ e₂ e₃ e₄ e₅ e₆ e₇ = λ i. e₀ i ∷ e₁ i ∷ e₂ i ∷ e₃ i ∷ e₄ i ∷ e₅ i ∷ e₆ i ∷ e₇ i ∷ []
 
 -- ---- written
-four_stored : (e : List ℕ) (o a b c d : ℕ) → o + 4 ≤ length e → set (set (set (set e o a) (o + 1) b) (o + 2) c) (o + 3) d ≡ take o e ++ ((a ∷ b ∷ c ∷ d ∷ []) ++ drop (o + 4) e)
+pub four_stored : (e : List ℕ) (o a b c d : ℕ) → o + 4 ≤ length e → set (set (set (set e o a) (o + 1) b) (o + 2) c) (o + 3) d ≡ take o e ++ ((a ∷ b ∷ c ∷ d ∷ []) ++ drop (o + 4) e)
 four_stored e o a b c d h =
     let e₁ : o + 1 ≡ suc o = omega arith in
     let e₂ : o + 2 ≡ suc (suc o) = omega arith in

@@ -189,10 +189,11 @@ fn answer_file(out: &mut [u8], file: &[u8], right: u8) -> usize
     requires { listing_bytes ≤ length out.old }
     ensures { Put out.old 0 (listing (right ∷ file.now)) result out.new }
 {
+    // before the match, so that it is cleared once
+    let mut steps = step_buffer();
     match policy::read_policy(file) {
         Err(by) => put_refused(out, by),
         Ok(p) => {
-            let mut steps = step_buffer();
             let judgement = safety::judge_read(Ok(p), right, &mut steps);
             print(out, judgement, &p, &steps)
         }

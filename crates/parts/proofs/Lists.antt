@@ -9,10 +9,10 @@ use native.Mathlib.Numerals.{add-one}
 use native.Mathlib.Decide.{ℕ_discrete}
 use borrow.Author.Tests.{eq-eqb, ne_eqb}
 use lib.Bits.{bit_or}
-use lib.Dec.{T, eqb, ltb, eqb→eq}
+use lib.Dec.{T, eqb, ltb, eqb→eq, ltb→lt}
 use lib.ListN.{length, get_or}
 use Rattle.cases.specs.Cases.{pick, all}
-use Rattle.cases.proofs.Bools.{and_right, holds as test-holds}
+use Rattle.cases.proofs.Bools.{and_left, and_right, holds as test-holds}
 use Rattle.cases.proofs.Loops.{all_stop, all_more, all_end, all_at}
 use Rattle.rights.specs.Rights.{has, insert}
 use Rattle.rights.proofs.Sets.{has_none, has_insert_same, has_insert_other}
@@ -66,6 +66,14 @@ module _ (m : State) (l : List ℕ) where
       pub reading_refused : r ≡ false → 42 ≡ trusted_refusal m l
       unfolding trusted_refusal
       reading_refused t = let e : false ≡ whole = all_stop taken_at (length l) whole i r this (ap not t) h K.rest in rw (← e)
+
+      -- a name that may leave is a digit of a mask
+      pub reading_small : not r ≡ false → x < 32
+      reading_small t = go r refl t
+        where
+          go : (u : Bool) → r ≡ u → not u ≡ false → x < 32
+          go true e q = ltb→lt x 32 (and_left (ltb x 32) (not (has z x)) (and_left (ltb x 32 && not (has z x)) (object_in m x) (test-holds (can_leave m (has z) x) (sym r-is ∙ e))))
+          go false e q = absurd (let w : ◌≡◌ {A = ℕ} 0 1 = cc in omega arith)
 
       pub reading_next : r ≡ true → (z' : ℕ) → z' ≡ insert z x → Reading z' (i + 1)
       unfolding mask_of

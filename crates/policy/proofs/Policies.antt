@@ -1,5 +1,5 @@
 -- What the reader of a file hands out. Assumes nothing.
-use Prim.Native.Nat.{ℕ, suc, ◌+◌, ◌-◌, ◌≤◌, ◌<◌}
+use Prim.Native.Nat.{ℕ, suc, ◌+◌, ◌-◌, ◌*◌, ◌≤◌, ◌<◌}
 use mathlib.Core.Path.{◌≡◌, refl, sym, ap, ap₂, ◌∙◌}
 use mathlib.Core.Bool.{false}
 use mathlib.Core.List.{List}
@@ -8,13 +8,15 @@ use native.Mathlib.Numerals.{add-one}
 use native.Mathlib.Omega.{arith}
 use borrow.Author.Tests.{ne_eqb, lt-ltb, le-ltb}
 use lib.Dec.{eqb, ltb}
-use lib.ListN.{length, get_or, set, replicate, length-set}
-use lib.Seq.{ext_get_or, get_or-set_same, get_or-set_other}
+use lib.ListN.{length, get_or, set, take, drop, replicate, length-set, length-drop, length-replicate}
+use lib.Seq.{ext_get_or, get_or-set_same, get_or-set_other, take_all, length-take-le}
 use Rattle.cases.specs.Cases.{pick, tabulate}
 use Rattle.cases.proofs.Lists.{length_tabulate, get_d_tabulate}
-use Rattle.protection.specs.Limits.{commands}
+use Rattle.rights.specs.Bytes.{set_bytes, sets_in}
+use Rattle.protection.specs.Limits.{names, commands}
 use Rattle.matrix.specs.declared.Matrix.{Matrix}
-use Rattle.layout.specs.File.{byte, rights_of, kinds_in, cells_in, carries_in, fixed_pairs, command_in}
+use Rattle.matrix.specs.Matrices.{empty_matrix}
+use Rattle.layout.specs.File.{byte, rights_of, offset_of, length_of, section, kinds_in, cells_in, carries_in, fixed_pairs, command_in}
 use Rattle.layout.specs.Refusals.{or_else, header_refusal, pairs_refusal, sizes_refusal}
 use Rattle.commands.specs.Refusals.{command_refusal}
 use Rattle.matrix.specs.Refusals.{matrix_refusal}
@@ -27,6 +29,28 @@ use Rattle.policy.specs.Contents.{command_table, matrix_in, policy_of}
 use Rattle.layout.proofs.Accepted.{HeaderFits, header_accepted, pairs_accepted, sizes_accepted}
 use Rattle.commands.specs.declared.Command.{Command}
 use Rattle.policy.specs.declared.Policy.{Policy}
+
+-- ---- the matrix
+-- the cells' section has the length to which it is cut
+section_length : (f : List ℕ) (i : ℕ) → offset_of f i + length_of f i ≤ length f → length (section f i) ≡ length_of f i
+section_length f i h = length-take-le (length_of f i) (drop (offset_of f i) f) (omega (arith, h, length-drop (offset_of f i) f))
+
+module _ (f : List ℕ) (h : MatrixInside f) (b : List ℕ) (is : b ≡ section f 1) where
+  long : length b ≡ set_bytes * (names * names)
+  long = let e = section_length f 1 h.cells_end in let z : length b ≡ length (section f 1) = rw is in omega (arith, e, z, h.cells_size)
+
+  cells_cut : take (set_bytes * (names * names)) b ≡ b
+  cells_cut = take_all (set_bytes * (names * names)) b (omega (arith, long))
+
+  pub cells_length : set_bytes * (names * names) ≡ length (take (set_bytes * (names * names)) b)
+  cells_length = let z : length (take (set_bytes * (names * names)) b) ≡ length b = rw cells_cut in omega (arith, long, z)
+
+  -- the kinds' section, and the sets of the cells' section in the place of those of no name
+  pub matrix_is : (m : Matrix) → m ≡ empty_matrix → (ks cs : List ℕ) → ks ≡ section f 0 → cs ≡ sets_in (length m.cells) (take (set_bytes * (names * names)) b) → ◌≡◌ {A = Matrix} (record { kinds = ks; cells = cs }) (matrix_in f)
+  matrix_is m e ks cs k c =
+      let n : length m.cells ≡ names * names = ap (λ (x : Matrix). length x.cells) e ∙ length-replicate {A = ℕ} (names * names) 0 in
+      let z : cs ≡ cells_in f = c ∙ ap₂ sets_in n (cells_cut ∙ is) in
+      rw (k, z)
 
 -- ---- the commands
 abbrev table_at : List ℕ → ℕ → ℕ → Command

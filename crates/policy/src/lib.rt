@@ -56,11 +56,12 @@ fn matrix_of(file: &[u8]) -> Matrix
     requires { MatrixInside file.now }
     ensures { result ≡ matrix_in file.now }
 {
-    let mut kinds = [0u8; Matrix::NAMES];
-    kinds.copy_from_slice(section(file, 0));
-    let mut cells = [rights::NONE; Matrix::NAMES * Matrix::NAMES];
-    rights::bytes::read_sets(section(file, 1), &mut cells);
-    Matrix { kinds, cells }
+    let mut matrix = Matrix::empty();
+    matrix.kinds.copy_from_slice(section(file, 0));
+    // a length that the compiler knows, so that the bytes are copied at once
+    let cells = &section(file, 1)[..rights::bytes::SIZE * (Matrix::NAMES * Matrix::NAMES)];
+    rights::bytes::read_sets(cells, &mut matrix.cells);
+    matrix
 }
 
 // The carries, in front of empty sets.

@@ -28,6 +28,8 @@ use Rattle.visits.specs.Engine.{bound_of, command_number, Asked}
 use Rattle.std.proofs.lemmas.List.{length-take-le, get_or-take, get_or_past}
 use Rattle.layout.proofs.Accepted.{or-else}
 use Rattle.questions.specs.Refusals.{single_operations, start_refusal, size_refusal}
+use Rattle.questions.specs.Rounded.{BasisOf}
+use Rattle.questions.specs.declared.Basis.{Basis}
 
 -- ---- commands of one operation, by their numbers
 abbrev pub one_operation : Policy → ℕ → Bool
@@ -65,6 +67,10 @@ module _ (p : Policy) (F : PolicyFits p) where
 
   pub single_is : (r : Bool) → r ≡ all (one_operation p) p.commands 0 → r ≡ single_operations (system_of p).commands
   single_is r e = e ∙ sym (single_all p F p.commands 0 (omega arith))
+
+-- ---- the bytes of all steps fit a word
+pub basis_fits : (x : Basis) → ((p : Policy) × BasisOf p x) → 5 * x.bound < 18446744073709551616
+basis_fits x B = omega (arith, B.1.bound_few)
 
 -- ---- a question that is not refused
 not_less : (a b : ℕ) → ltb a b ≡ false → b ≤ a

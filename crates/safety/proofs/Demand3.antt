@@ -171,7 +171,7 @@ module _ (f : List ℕ) (r : ℕ) (b : List ℕ) where
 
   -- and of one that it accepts
   module _ (z : refusal f ≡ 0) (p : Policy) (p-is : p ≡ policy_of f) where
-    caller_is : judge_refusal f r (length b) ≡ caller_refusal (system_of p) (state_of p.matrix) r (length b)
+    pub caller_is : judge_refusal f r (length b) ≡ caller_refusal (system_of p) (state_of p.matrix) r (length b)
     unfolding judge_refusal policy_of
     caller_is = or_second (refusal f) (caller_refusal (file_system f) (file_state f) r (length b)) z ∙ ap (λ (q : Policy). caller_refusal (system_of q) (state_of q.matrix) r (length b)) (sym p-is)
 

@@ -1,9 +1,9 @@
 -- The sheet and the buffer while the entries are answered one after the other. Assumes nothing.
 use Prim.Native.Nat.{ℕ, suc, ◌+◌, ◌*◌, ◌≤◌, ◌<◌}
-use mathlib.Core.Path.{◌≡◌, sym, ap, ap₂, ◌∙◌}
+use mathlib.Core.Path.{◌≡◌, refl, sym, ap, ap₂, ◌∙◌}
 use mathlib.Core.List.{List, [], ◌∷◌, ◌++◌, append_assoc, append-nil}
 use native.Mathlib.Numerals.{add-one}
-use native.Mathlib.Nat.{suc-mul, mul-le-mul_right}
+use native.Mathlib.Nat.{zero-mul, suc-mul, mul-le-mul_right}
 use native.Mathlib.Omega.{arith}
 use lib.ListN.{length, get_or, take, drop, set, length-append, length-drop, length-set, take-append-drop}
 use lib.Seq.{drop-cons, drop-length, take-length, drop-set-lt, take-suc-set, take_at, drop_at}
@@ -19,6 +19,10 @@ pub record Filling (f : List ℕ) (k : ℕ) (s : List Entry) (b : List ℕ) (i :
   pub bytes : length b' ≡ length b
 
 module _ (f : List ℕ) (k : ℕ) (s : List Entry) (b : List ℕ) where
+  -- before the first entry
+  pub filling_start : Filling f k s b 0 s b
+  filling_start = record { sheet = refl; buffer = rw zero-mul; entries = refl; bytes = refl }
+
   module _ (i : ℕ) (s' : List Entry) (b' : List ℕ) (F : Filling f k s b i s' b') where
     pub filling_end : length s' ≤ i → i ≤ length s' → (s' ≡ answers f k s) × (b' ≡ parts_filled f k s b)
     filling_end h l = (sym (ap₂ ◌++◌ all (ap (answers f k) none) ∙ append-nil s') ∙ F.sheet, sym (ap (λ (t : List Entry). take (i * k) b' ++ parts_filled f k t (drop (i * k) b')) none ∙ take-append-drop (i * k) b') ∙ F.buffer)

@@ -84,7 +84,7 @@ module _ (f : List ℕ) (p : Policy) (z : refusal f ≡ 0) (d : p ≡ policy_of 
     left : state_of m ≡ after (file_outcome f x) (file_state f)
     left = h.state ∙ ap₂ after outcome_is state_before
 
-    answer-refused : (n : ℕ) → w ≡ Refused n → FileRun f x n f
+    pub answer-refused : (n : ℕ) → w ≡ Refused n → FileRun f x n f
     unfolding run_code run_file
     answer-refused n q = go (file_outcome f x) refl
       where
@@ -94,7 +94,7 @@ module _ (f : List ℕ) (p : Policy) (z : refusal f ≡ 0) (d : p ≡ policy_of 
             file_run f x n f (rw (z, v) (sym same)) (rw (z, v))
         go (done m' new) v = absurd (done_not n (new 0) (sym (answered ∙ ap (answer_of 0) v) ∙ q))
 
-    answer-done : (b : Bool) (f' : List ℕ) → w ≡ pick b Leaked Done → f' ≡ written f (state_of m) → FileRun f x 0 f'
+    pub answer-done : (b : Bool) (f' : List ℕ) → w ≡ pick b Leaked Done → f' ≡ written f (state_of m) → FileRun f x 0 f'
     unfolding run_code run_file
     answer-done b f' q e = go (file_outcome f x) refl
       where
