@@ -75,7 +75,7 @@ fn check_list(p: &Policy, list: &[u8]) -> Result<(), Refusal>
     Ok(())
 }
 
-// The matrix as tables. Its copies lie on the stack before the rounds, and not beside them.
+// The matrix as tables. The copies made in building them lie on the stack before the rounds, and not beside them.
 #[inline(never)]
 fn tables_of(p: &Policy) -> Tables
     ensures { ToldBy p.now.carried p.now.matrix.cells result }
