@@ -82,12 +82,12 @@ extern "C" {
 
 /*
  * Bytes of stack that are enough for each call. This is measured and not proved: access_check used about 12,400 bytes, access_run
- * 14,600, access_replay 14,600, access_judge 63,100, access_judge_part 55,700, access_sheet 61,100, access_need 56,300. Each ran in
+ * 14,600, access_replay 14,600, access_judge 57,600, access_judge_part 50,200, access_sheet 55,600, access_need 34,000. Each ran in
  * a thread whose stack of 1 MiB was painted with a pattern before, and what had lost its paint afterwards was counted, less what
- * an idle thread uses; on 60 generated files, for all rights, access_judge_part with none, some and all of
- * the names listed, access_sheet with 0, 1 and 8 entries, access_need with lists of 0, 1 and 8 cells. The files made no
- * difference: the calls hold arrays of fixed size alone, and recur at most once for each blank of a rule. The tests measure it
- * again, and fail above this number.
+ * an idle thread uses; on some hundred generated files, for all rights, access_judge_part with no names and some of them listed,
+ * access_sheet with 0, 1 and 8 entries, access_need with lists of 0, 1 and 8 cells. The most is given; files whose rounds ran
+ * differed by less than 2,400 bytes, since the calls hold arrays of fixed size alone, and recur at most once for each blank of a
+ * rule. The tests measure it again on 60 files, and fail above this number.
  */
 #define TUGCAPHI_STACK 98304
 

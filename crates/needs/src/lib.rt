@@ -7,6 +7,7 @@ ghost use Rattle.protection.specs.Limits.{names};
 ghost use Rattle.refusals.specs.Numbers.{code};
 ghost use Rattle.matrix.specs.Bytes.{view};
 ghost use Rattle.matrix.specs.Matrices.{state_of};
+ghost use Rattle.masks.specs.Told.{ToldBy};
 ghost use Rattle.policy.specs.Contents.{system_of};
 ghost use Rattle.policy.specs.Fits.{PolicyFits};
 ghost use Rattle.goals.specs.Goals.{cell_limit, needed_at, held_goal};
@@ -74,12 +75,20 @@ fn check_list(p: &Policy, list: &[u8]) -> Result<(), Refusal>
     Ok(())
 }
 
+// The matrix as tables. The copies made in building them lie on the stack before the rounds, and not beside them.
+#[inline(never)]
+fn tables_of(p: &Policy) -> Tables
+    ensures { ToldBy p.now.carried p.now.matrix.cells result }
+{
+    Tables::build(&p.matrix.cells, &p.carried)
+}
+
 // The rounds, on a copy of the state.
 fn needed(p: &Policy, basis: &Basis, list: &[u8], buffer: &mut [u8]) -> Need
     requires { Asked p.now (held_goal list.now) (length buffer.old) × (length list.now ≤ 3 * cell_limit) × BasisOf p.now basis.now }
     ensures { NeedRounded p.now list.now buffer.old (needed_told result) buffer.new }
 {
-    let tables = Tables::build(&p.matrix.cells, &p.carried);
+    let tables = tables_of(p);
     let course = questions::all_rounds(p, Goal::held(list), basis, &tables, buffer);
     if course.ended {
         return Need::Held(course.steps);
